@@ -1,0 +1,82 @@
+-- Values as contracts see them, their types and order, and sets of faults.
+use Rattle.std.specs.Prelude.{◌≡◌, ℕ, Bool, true, false, ◌||◌, slice_index_or}
+use Rattle.std.specs.declared.cmp.Ordering.{Ordering}
+use Rattle.std.specs.declared.cmp.Ordering.TheVariants.{Less, Equal, Greater}
+use Rattle.std.specs.Ordering.{nat_cmp, int_cmp, bool_cmp, is_eq}
+use Rattle.std.specs.Cmp.{IsTotalOrder}
+use Rattle.std.specs.Cmp.Lexicographic.{slice_cmp}
+use Rattle.castor_val.specs.declared.value.Ty.{Ty}
+use Rattle.castor_val.specs.declared.value.Ty.TheVariants as ty
+use Rattle.castor_val.specs.declared.value.Value.{Value}
+use Rattle.castor_val.specs.declared.value.Value.TheVariants.{Int, Bool as Truth, Text}
+use Rattle.castor_val.specs.declared.value.Cell.{Cell}
+use Rattle.castor_val.specs.declared.value.Cell.TheVariants as cell
+use Rattle.castor_val.specs.declared.fault.Faults.{Faults}
+use Rattle.castor_val.specs.declared.row.Row.{Row}
+
+-- the value that a cell borrows
+abbrev pub value_of : Cell → Value
+value_of (cell.Int z) = Int z
+value_of (cell.Bool b) = Truth b
+value_of (cell.Text s) = Text s.now
+
+-- the type that a value is of
+abbrev pub type_of_value : Value → Ty
+type_of_value (Int z) = ty.Int
+type_of_value (Truth b) = ty.Bool
+type_of_value (Text t) = ty.Text
+
+-- the value of a row in a column, and false where the row has no such column
+abbrev pub column : Row → ℕ → Value
+column r at = slice_index_or r at (Truth false)
+
+-- the place of a value's type in the order: ints, then bools, then texts
+abbrev pub class : Value → ℕ
+class (Int z) = 0
+class (Truth b) = 1
+class (Text t) = 2
+
+-- the order of values: by class, ints by number, false before true, texts by bytes
+abbrev pub value_cmp : Value → Value → Ordering
+value_cmp (Int x) (Int y) = int_cmp x y
+value_cmp (Int x) (Truth y) = Less
+value_cmp (Int x) (Text y) = Less
+value_cmp (Truth x) (Int y) = Greater
+value_cmp (Truth x) (Truth y) = bool_cmp x y
+value_cmp (Truth x) (Text y) = Less
+value_cmp (Text x) (Int y) = Greater
+value_cmp (Text x) (Truth y) = Greater
+value_cmp (Text x) (Text y) = slice_cmp nat_cmp x y
+
+-- the order of rows: by the first value in which they differ, a row before its extensions
+abbrev pub row_cmp : Row → Row → Ordering
+row_cmp a b = slice_cmp value_cmp a b
+
+-- whether two rows have equal values
+abbrev pub same_row : Row → Row → Bool
+same_row a b = is_eq (row_cmp a b)
+
+-- the order of values is total, and only equal values tie
+pub record IsValueOrder : Type 0 where
+  pub total : IsTotalOrder value_cmp
+  pub tied : (a b : Value) → value_cmp a b ≡ Equal → a ≡ b
+
+-- the empty set of faults
+abbrev pub no_faults : Faults
+no_faults = record { division = false; overflow = false; norows = false }
+
+-- the set of division alone
+abbrev pub division_fault : Faults
+division_fault = record { division = true; overflow = false; norows = false }
+
+-- the set of overflow alone
+abbrev pub overflow_fault : Faults
+overflow_fault = record { division = false; overflow = true; norows = false }
+
+-- the set of norows alone
+abbrev pub norows_fault : Faults
+norows_fault = record { division = false; overflow = false; norows = true }
+
+-- the faults that are in either set
+abbrev pub union : Faults → Faults → Faults
+union a b = record { division = a.division || b.division; overflow = a.overflow || b.overflow; norows = a.norows || b.norows }

@@ -1,0 +1,71 @@
+//! The faults that the evaluation of a query can meet, and sets of them.
+
+ghost use Rattle.std.specs.Prelude.{◌≡◌, ◌↔◌, IsTrue};
+ghost use Rattle.castor_val.specs.Values.{no_faults, union};
+
+/// Why an expression or an aggregate has no value.
+#[derive(Clone, Copy, Debug, PartialEq, Eq)]
+pub enum Fault {
+    /// A division by zero, or the rest of one.
+    Division,
+    /// A whole number that is no int.
+    Overflow,
+    /// The least or the greatest value of no rows.
+    NoRows,
+}
+
+/// A set of faults: for each kind, whether the set has it.
+#[derive(Clone, Copy, Debug, PartialEq, Eq)]
+pub struct Faults {
+    pub division: bool,
+    pub overflow: bool,
+    pub norows: bool,
+}
+
+impl Faults {
+    /// The empty set.
+    pub const NONE: Faults = Faults {
+        division: false,
+        overflow: false,
+        norows: false,
+    };
+
+    /// The set of `Fault::Division` alone.
+    pub const DIVISION: Faults = Faults {
+        division: true,
+        overflow: false,
+        norows: false,
+    };
+
+    /// The set of `Fault::Overflow` alone.
+    pub const OVERFLOW: Faults = Faults {
+        division: false,
+        overflow: true,
+        norows: false,
+    };
+
+    /// The set of `Fault::NoRows` alone.
+    pub const NOROWS: Faults = Faults {
+        division: false,
+        overflow: false,
+        norows: true,
+    };
+
+    /// The faults that are in either set.
+    pub fn union(self, more: Faults) -> Faults
+        ensures { result ≡ union self more }
+    {
+        Faults {
+            division: self.division || more.division,
+            overflow: self.overflow || more.overflow,
+            norows: self.norows || more.norows,
+        }
+    }
+
+    /// Whether the set has no fault.
+    pub fn is_empty(self) -> bool
+        ensures { IsTrue result ↔ (self ≡ no_faults) }
+    {
+        !(self.division || self.overflow || self.norows)
+    }
+}

@@ -1,7 +1,7 @@
 //! The text that a value is printed as.
 
 ghost use Rattle.std.specs.Prelude.{◌≡◌};
-ghost use Rattle.castor_val.specs.Fields.{value_text};
+ghost use Rattle.castor_val.specs.Fields.{ReadsBack, value_text};
 ghost use Rattle.castor_val.specs.Values.{value_of};
 
 use crate::value::Cell;
@@ -25,7 +25,10 @@ impl<'a> Cell<'a> {
     /// The value as the text of a field: an int in decimal, `true` or `false`, or the text itself.
     /// It borrows the buffer, so copy it before the next call. Takes no memory.
     pub fn text(self, buffer: &'a mut TextBuffer) -> &'a str
-        ensures { result.now ≡ value_text (value_of self.entry) }
+        ensures text { result.now ≡ value_text (value_of self.entry) }
+
+        // Where a field is of a type that the value fits, it is read back as the value.
+        ensures law { ReadsBack (value_of self.entry) }
     {
         match self {
             Cell::Int(number) => buffer.digits.format(number),

@@ -9,6 +9,8 @@ pub mod order;
 pub mod print;
 pub mod row;
 pub mod table;
+#[cfg(test)]
+mod tests;
 pub mod text;
 pub mod value;
 

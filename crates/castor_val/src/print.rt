@@ -8,6 +8,7 @@ use crate::value::Cell;
 use itoa::Buffer;
 
 /// Room on the stack for the text of one value.
+#[derive(Drop)]
 pub struct TextBuffer {
     digits: Buffer,
 }

@@ -1,4 +1,5 @@
 pub mod CellLaws
+mod DecimalLaws
 pub mod FaultLaws
 pub mod FieldLaws
 pub mod FitLaws

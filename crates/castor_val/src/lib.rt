@@ -2,6 +2,7 @@
 #![tactic(auto)]
 
 pub mod column;
+mod decimal;
 pub mod fault;
 pub mod field;
 pub mod memory;

@@ -4,20 +4,20 @@ ghost use Rattle.std.specs.Prelude.{◌≡◌};
 ghost use Rattle.castor_val.specs.Fields.{ReadsBack, value_text};
 ghost use Rattle.castor_val.specs.Values.{value_of};
 
+use crate::decimal::{MAX_INT_TEXT, int_text};
 use crate::value::Cell;
-use itoa::Buffer;
 
 /// Room on the stack for the text of one value.
 #[derive(Drop)]
 pub struct TextBuffer {
-    digits: Buffer,
+    digits: [u8; MAX_INT_TEXT],
 }
 
 impl TextBuffer {
     /// Room for the text of one value after another.
     pub fn new() -> TextBuffer {
         TextBuffer {
-            digits: Buffer::new(),
+            digits: [0; MAX_INT_TEXT],
         }
     }
 }
@@ -32,7 +32,7 @@ impl<'a> Cell<'a> {
         ensures law { ReadsBack (value_of self.entry) }
     {
         match self {
-            Cell::Int(number) => buffer.digits.format(number),
+            Cell::Int(number) => int_text(number, &mut buffer.digits),
             Cell::Bool(true) => "true",
             Cell::Bool(false) => "false",
             Cell::Text(text) => text,

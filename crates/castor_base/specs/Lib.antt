@@ -3,6 +3,7 @@ pub mod Failing
 pub mod FileMap
 pub mod Files
 pub mod Moves
+pub mod Real
 pub mod Shelves
 pub mod Sinks
 pub mod Sources

@@ -1,5 +1,5 @@
 -- What clauses see of the shelf in memory.
-use Rattle.std.specs.Prelude.{ℕ, false, List, Option, Result, Ok, Err, ◌≡◌, ◌≢◌, IsTrue, MatchResult}
+use Rattle.std.specs.Prelude.{ℕ, false, List, Option, Result, ◌≡◌, IsTrue, MatchResult}
 use Rattle.castor_base.specs.FileMap.{file_of}
 use Rattle.castor_base.specs.Failing.{after_call, after_fault, fails_next}
 use Rattle.castor_base.specs.declared.failing.FailingCalls.{FailingCalls}
@@ -22,14 +22,14 @@ after_refusal f e.TooLong = after_call f
 after_refusal f e.Failed = after_fault (after_call f)
 after_refusal f e.Memory = after_call f
 
--- the read was counted, Failed comes exactly at a call that is to fail and finds the file within the limit
+-- how a refusal goes by the plan: Failed comes only at a call that is to fail, and Memory only at another
 abbrev pub FailsAsPlanned : FailingCalls → ShelfError → Type 0
 FailsAsPlanned f e.Absent = Unit {0}
 FailsAsPlanned f e.TooLong = Unit {0}
 FailsAsPlanned f e.Failed = IsTrue (fails_next f)
 FailsAsPlanned f e.Memory = fails_next f ≡ false
 
--- a read was counted, and it failed exactly where it was to, had a file of that name and limit
+-- a read was counted, a fault at Failed alone, and a read that is to fail was refused
 pub record CountsRead {T : Type 0} (old new : FailingCalls) (result : Result T ShelfError) : Type 0 where
   pub after : MatchResult result (λ _. new ≡ after_call old) (λ error. new ≡ after_refusal old error)
   pub planned : MatchResult result (λ _. fails_next old ≡ false) (FailsAsPlanned old)

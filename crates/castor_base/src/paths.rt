@@ -4,54 +4,52 @@ ghost use Rattle.castor_base.specs.Causes.{Rose};
 
 use crate::{Failed, ReaderSource, Shelf, ShelfError, TakeError, read_all};
 use std::alloc::Global;
-use std::fs::{File, OpenFile};
-use std::io::{Error, ErrorKind, Write};
+use std::fs::{File, OpenFile, Permissions};
+use std::io::{Cursor, Error, ErrorKind, Read, Write};
 use std::rt::Files;
-use std::{fs, io};
+use std::{fs, io, str};
 
-// How many names for a new file are tried beside those that are taken.
+// How many paths for a new file are tried beside those that are taken.
 const TRIES: u64 = 1000;
 
+// The bytes of the longest path that the system takes.
+const PATH_ROOM: usize = 4096;
+
 /// A shelf over the system's files, whose names are paths. It counts a fault at each error, also
-/// at `Absent` and `TooLong`, and tells no content.
+/// at `Absent`, `TooLong` and `Memory`, and tells no content.
 #[derive(Drop)]
 pub struct PathShelf<R: Files> {
     rt: R,
-    alloc: Global,
     faults: u64,
 }
 
 impl<R: Files> PathShelf<R> {
-    /// A shelf over the files of the runtime. The allocator serves for the names of new files.
-    pub fn new(rt: R, alloc: Global) -> Self {
-        PathShelf {
-            rt,
-            alloc,
-            faults: 0,
-        }
+    ghost use Rattle.castor_base.specs.Real.{path_faults};
+
+    /// A shelf over the files of the runtime.
+    pub fn new(rt: R) -> Self
+        ensures { path_faults result ≡ 0 }
+    {
+        PathShelf { rt, faults: 0 }
     }
 
-    /// How many calls failed.
+    /// How many calls failed. The number stops at 2^64 - 1.
     pub fn faults(&self) -> u64
-        ensures { result ≡ self.now.faults }
+        ensures { result ≡ path_faults self.now }
     {
         self.faults
     }
 
     fn count_fault(&mut self)
-        ensures rose { Rose self.old.faults self.new.faults }
-        ensures later { self.old.faults ≤ self.new.faults }
+        ensures rose { Rose (path_faults self.old) (path_faults self.new) }
+        ensures later { path_faults self.old ≤ path_faults self.new }
     {
         self.faults = self.faults.saturating_add(1);
     }
 }
 
 // Reads the file that is open.
-fn read_open<F: io::Read + Drop>(
-    alloc: Global,
-    file: F,
-    limit: u64,
-) -> Result<Vec<u8>, ShelfError> {
+fn read_open<F: Read + Drop>(alloc: Global, file: F, limit: u64) -> Result<Vec<u8>, ShelfError> {
     match read_all(alloc, &mut ReaderSource::new(file), limit) {
         Ok(bytes) => Ok(bytes),
         Err(TakeError::Failed) => Err(ShelfError::Failed),
@@ -60,62 +58,70 @@ fn read_open<F: io::Read + Drop>(
     }
 }
 
-// Refuses a name that stands for something else than a file, as a folder or a device, or for a
-// file that nobody may write.
-fn check_place(rt: &impl Files, name: &str) -> io::Result<()> {
+// The permissions of the file that has the name, if there is one. It refuses a name of something
+// else, as a folder or a device, and a file that nobody may write.
+fn old_permissions(rt: &impl Files, name: &str) -> io::Result<Option<Permissions>> {
     match fs::metadata(rt, name) {
-        Ok(found) if found.is_file() && !found.permissions().readonly() => Ok(()),
+        Ok(old) if old.is_file() && !old.permissions().readonly() => Ok(Some(old.permissions())),
         Ok(_) => Err(Error::from(ErrorKind::PermissionDenied)),
-        Err(e) if e.kind() == ErrorKind::NotFound => Ok(()),
+        Err(e) if e.kind() == ErrorKind::NotFound => Ok(None),
         Err(e) => Err(e),
     }
 }
 
-// A path in the folder of the name.
-fn beside(alloc: Global, name: &str, number: u64) -> io::Result<String> {
-    let path = match name.rsplit_once('/') {
-        Some((folder, _)) => format!(in alloc; "{folder}/.castor-{number}.new")?,
-        None => format!(in alloc; ".castor-{number}.new")?,
-    };
-    Ok(path)
-}
-
-// Makes a new file in the folder of the name, under a path that no file has.
-fn create_beside<R: Files>(rt: &R, alloc: Global, name: &str) -> io::Result<(String, R::File)> {
-    for number in 0..TRIES {
-        let path = beside(alloc, name, number)?;
-        match File::create_new(rt, path.as_str()) {
-            Ok(file) => return Ok((path, file)),
-            Err(e) if e.kind() == ErrorKind::AlreadyExists => {}
-            Err(e) => return Err(e),
-        }
+// A path in the folder of the name, written into the room.
+fn path_beside<'a>(
+    room: &'a mut Cursor<[u8; PATH_ROOM]>,
+    name: &str,
+    number: u64,
+) -> io::Result<&'a str> {
+    room.set_position(0);
+    match name.rsplit_once('/') {
+        Some((folder, _)) => write!(room, "{folder}/.castor-{number}.new")?,
+        None => write!(room, ".castor-{number}.new")?,
     }
-    Err(Error::from(ErrorKind::AlreadyExists))
+    let end = room.position() as usize;
+    let path = room.get_ref().get(..end).ok_or(ErrorKind::InvalidInput)?;
+    str::from_utf8(path).map_err(|_| Error::from(ErrorKind::InvalidInput))
 }
 
-// Fills the new file, and puts it in the place of the name.
+// Fills the new file at the path, and puts it in the place of the name.
 fn fill_and_rename<R: Files>(
     rt: &R,
     mut file: R::File,
     path: &str,
     name: &str,
     bytes: &[u8],
+    permissions: Option<Permissions>,
 ) -> io::Result<()> {
+    if let Some(permissions) = permissions {
+        file.set_permissions(permissions)?;
+    }
     file.write_all(bytes)?;
     file.sync_all()?;
     fs::rename(rt, path, name)
 }
 
-// Writes a new file beside the name, and puts it in the name's place. Where that fails, the new
-// file is removed, and the old one stays.
-fn replace(rt: &impl Files, alloc: Global, name: &str, bytes: &[u8]) -> io::Result<()> {
-    check_place(rt, name)?;
-    let (path, file) = create_beside(rt, alloc, name)?;
-    let written = fill_and_rename(rt, file, path.as_str(), name, bytes);
-    if written.is_err() {
-        let _ = fs::remove_file(rt, path.as_str());
+// Writes a new file beside the name, under a path that no file has, and puts it in the name's
+// place. Where that fails, the new file is removed, and the old one stays.
+fn replace(rt: &impl Files, name: &str, bytes: &[u8]) -> io::Result<()> {
+    let permissions = old_permissions(rt, name)?;
+    let mut room = Cursor::new([0u8; PATH_ROOM]);
+    for number in 0..TRIES {
+        let path = path_beside(&mut room, name, number)?;
+        match File::create_new(rt, path) {
+            Ok(file) => {
+                let written = fill_and_rename(rt, file, path, name, bytes, permissions);
+                if written.is_err() {
+                    let _ = fs::remove_file(rt, path);
+                }
+                return written;
+            }
+            Err(e) if e.kind() == ErrorKind::AlreadyExists => {}
+            Err(e) => return Err(e),
+        }
     }
-    written
+    Err(Error::from(ErrorKind::AlreadyExists))
 }
 
 impl<R: Files> Shelf for PathShelf<R> {
@@ -140,10 +146,13 @@ impl<R: Files> Shelf for PathShelf<R> {
     }
 
     /// Writes a new file in the name's folder, under a path that no file has, flushes it to the
-    /// disk, and renames it: the name has the old file or the new one at any time. A new file that
-    /// can't be finished is removed. A link is replaced, and the file that it leads to stays.
+    /// disk and renames it, so that the name has the old bytes or the new ones at any time. The
+    /// new file has the permissions of the old one, and is removed where it can't be finished.
+    ///
+    /// A link is replaced, and the file that it leads to stays. What is no file, as a folder or a
+    /// device, is never replaced, nor is a file that nobody may write. Takes no memory.
     fn write(&mut self, name: &str, bytes: &[u8]) -> Result<(), Failed> {
-        match replace(&self.rt, self.alloc, name, bytes) {
+        match replace(&self.rt, name, bytes) {
             Ok(()) => Ok(()),
             Err(_) => {
                 self.count_fault();

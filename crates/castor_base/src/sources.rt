@@ -159,7 +159,14 @@ impl Source for RepeatSource {
 
     ghost faults = { λ s. 0 };
 
-    fn take(&mut self, buf: &mut [u8]) -> Result<usize, Failed> {
+    /// Takes as many bytes as are left and have room.
+    fn take(&mut self, buf: &mut [u8]) -> Result<usize, Failed>
+        ensures bound { ReadsAtMost result buf.new }
+        ensures bytes { ReadConsumes (Some (repeat_left self.old)) (Some (repeat_left self.new)) result buf.new }
+        ensures cause { HasCause 0 0 result }
+        ensures full { IfOk result (λ n. n ≡ min (length (repeat_left self.old)) (length buf.new)) }
+        ensures sure { IsOk result }
+    {
         let n = self.left.min(buf.len() as u64);
         buf[..n as usize].fill(self.byte);
         self.left -= n;

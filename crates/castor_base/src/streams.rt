@@ -13,14 +13,19 @@ pub struct ReaderSource<R: Read> {
 }
 
 impl<R: Read> ReaderSource<R> {
-    /// A source of the bytes that the reader has left.
-    pub fn new(inner: R) -> Self {
+    ghost use Rattle.castor_base.specs.Real.{reader_of, reader_faults};
+
+    /// A source of the bytes that the reader has left, with no buffer of its own.
+    pub fn new(inner: R) -> Self
+        ensures reader { reader_of result ≡ inner }
+        ensures faults { reader_faults result ≡ 0 }
+    {
         ReaderSource { inner, faults: 0 }
     }
 
-    /// How many calls failed.
+    /// How many calls of `take` failed. The number stops at 2^64 - 1.
     pub fn faults(&self) -> u64
-        ensures { result ≡ self.now.faults }
+        ensures { result ≡ reader_faults self.now }
     {
         self.faults
     }
@@ -52,14 +57,19 @@ pub struct WriterSink<W: Write> {
 }
 
 impl<W: Write> WriterSink<W> {
+    ghost use Rattle.castor_base.specs.Real.{writer_of, writer_faults};
+
     /// A sink that writes what it is given at once, with no buffer of its own.
-    pub fn new(inner: W) -> Self {
+    pub fn new(inner: W) -> Self
+        ensures writer { writer_of result ≡ inner }
+        ensures faults { writer_faults result ≡ 0 }
+    {
         WriterSink { inner, faults: 0 }
     }
 
-    /// How many calls failed.
+    /// How many calls of `put` failed. The number stops at 2^64 - 1.
     pub fn faults(&self) -> u64
-        ensures { result ≡ self.now.faults }
+        ensures { result ≡ writer_faults self.now }
     {
         self.faults
     }

@@ -1,5 +1,5 @@
 -- Look-ups in a hash index and in an ordered index.
-use Rattle.std.specs.Prelude.{List, [], ◌∷◌, filter, Bool, true, false, ◌&&◌, Result, Ok, Err}
+use Rattle.std.specs.Prelude.{[], filter, Bool, true, false, ◌&&◌, Result, Ok, Err}
 use Rattle.std.specs.List.{list_any}
 use Rattle.std.specs.Ordering.{is_lt, is_le, is_gt, is_ge}
 use Rattle.castor_val.specs.declared.value.Value.{Value}

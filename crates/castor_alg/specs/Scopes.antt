@@ -1,5 +1,5 @@
 -- Environments: each scope number has a row, and a scope that isn't bound has one of no values.
-use Rattle.std.specs.Prelude.{ℕ, ◌==◌, List, [], ◌∷◌, map, fold, if◌then◌else◌}
+use Rattle.std.specs.Prelude.{ℕ, ◌==◌, List, [], map, fold, if◌then◌else◌}
 use Rattle.castor_val.specs.declared.row.Row.{Row}
 use Rattle.castor_val.specs.Values.{value_of}
 use Rattle.castor_alg.specs.declared.env.Env.{Env}

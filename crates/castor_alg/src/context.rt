@@ -1,6 +1,6 @@
 //! Contexts: the types of all that a relation may read.
 
-use castor_val::value::Ty;
+use castor_val::Ty;
 use sqlite_items::Items;
 
 /// The column types of the tables and of the scopes in force, the innermost last, and the types of

@@ -1,7 +1,6 @@
 //! Environments: the rows that scopes are bound to.
 
-use castor_val::row::Row;
-use castor_val::value::Cell;
+use castor_val::{Cell, Row};
 
 /// The rows of the scopes in force, the innermost binding first. Where a scope is bound twice the
 /// innermost binding holds.

@@ -1,6 +1,6 @@
 //! Expressions.
 
-use castor_val::value::Value;
+use castor_val::Value;
 use sqlite_items::Boxed;
 
 /// A binary operator. Its place in this list, from 0, is its number in reader code.

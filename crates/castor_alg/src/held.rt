@@ -1,7 +1,6 @@
 //! Held data: the tree of values that is stored for a query.
 
-use castor_val::row::Row;
-use castor_val::value::Value;
+use castor_val::{Row, Value};
 use sqlite_items::{Boxed, Items};
 
 /// Stored values, in the shape of the relation that they are stored for.

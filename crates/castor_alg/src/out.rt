@@ -1,7 +1,6 @@
 //! What a relation gives.
 
-use castor_val::fault::Faults;
-use castor_val::table::Table;
+use castor_val::{Faults, Table};
 
 /// The rows of a relation, in order, and its faults.
 #[derive(Drop)]

@@ -8,3 +8,11 @@ pub mod row;
 pub mod table;
 pub mod text;
 pub mod value;
+
+pub use column::Column;
+pub use fault::{Fault, Faults};
+pub use memory::Memory;
+pub use row::Row;
+pub use table::Table;
+pub use text::Text;
+pub use value::{Cell, Ty, Value};

@@ -1,0 +1,3 @@
+mod AnyLengths
+mod Fuel
+mod Steps

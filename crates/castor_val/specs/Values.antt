@@ -1,5 +1,7 @@
 -- Values as contracts see them, their types and order, and sets of faults.
-use Rattle.std.specs.Prelude.{◌≡◌, ℕ, Bool, true, false, ◌||◌, slice_index_or}
+use Rattle.std.specs.Prelude.{◌≡◌, ℕ, ◌^◌, ℤ, pos, negsuc, Bool, true, false, ◌&&◌, ◌||◌, List, [], ◌∷◌, nat_lt, nat_le, length, slice_index_or}
+use Rattle.std.specs.List.{list_all}
+use Rattle.std.specs.Str.{is_utf8}
 use Rattle.std.specs.declared.cmp.Ordering.{Ordering}
 use Rattle.std.specs.declared.cmp.Ordering.TheVariants.{Less, Equal, Greater}
 use Rattle.std.specs.Ordering.{nat_cmp, int_cmp, bool_cmp, is_eq}
@@ -13,6 +15,7 @@ use Rattle.castor_val.specs.declared.value.Cell.{Cell}
 use Rattle.castor_val.specs.declared.value.Cell.TheVariants as cell
 use Rattle.castor_val.specs.declared.fault.Faults.{Faults}
 use Rattle.castor_val.specs.declared.row.Row.{Row}
+use Rattle.castor_val.specs.declared.table.Table.{Table}
 
 -- the value that a cell borrows
 abbrev pub value_of : Cell → Value
@@ -25,6 +28,44 @@ abbrev pub type_of_value : Value → Ty
 type_of_value (Int z) = ty.Int
 type_of_value (Truth b) = ty.Bool
 type_of_value (Text t) = ty.Text
+
+-- whether a value is of a type
+abbrev pub has_type : Value → Ty → Bool
+has_type (Int z) ty.Int = true
+has_type (Int z) ty.Bool = false
+has_type (Int z) ty.Text = false
+has_type (Truth b) ty.Int = false
+has_type (Truth b) ty.Bool = true
+has_type (Truth b) ty.Text = false
+has_type (Text t) ty.Int = false
+has_type (Text t) ty.Bool = false
+has_type (Text t) ty.Text = true
+
+-- whether a whole number is an int: at least -2^63 and less than 2^63
+abbrev pub is_int : ℤ → Bool
+is_int (pos n) = nat_lt n (2 ^ 63)
+is_int (negsuc n) = nat_lt n (2 ^ 63)
+
+-- whether a value keeps the limits: ints of 64 bits, and texts of UTF-8 with at most 65,535 bytes
+abbrev pub is_within_limits : Value → Bool
+is_within_limits (Int z) = is_int z
+is_within_limits (Truth b) = true
+is_within_limits (Text t) = is_utf8 t && nat_le (length t) 65535
+
+-- whether a value fits a type: it is of the type and keeps the limits
+abbrev pub value_fits : Value → Ty → Bool
+value_fits v t = has_type v t && is_within_limits v
+
+-- whether a row fits a list of types: as many values as types, each of which fits its type
+abbrev pub row_fits : Row → List Ty → Bool
+row_fits [] [] = true
+row_fits [] (t ∷ types) = false
+row_fits (v ∷ row) [] = false
+row_fits (v ∷ row) (t ∷ types) = value_fits v t && row_fits row types
+
+-- whether each row of a table fits the types
+abbrev pub table_fits : Table → List Ty → Bool
+table_fits table types = list_all (λ row. row_fits row types) table
 
 -- the value of a row in a column, and false where the row has no such column
 abbrev pub column : Row → ℕ → Value

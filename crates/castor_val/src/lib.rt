@@ -3,7 +3,9 @@
 
 pub mod column;
 pub mod fault;
+pub mod field;
 pub mod memory;
+pub mod print;
 pub mod row;
 pub mod table;
 pub mod text;

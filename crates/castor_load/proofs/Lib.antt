@@ -1,3 +1,5 @@
 mod AnyLengths
+mod Fields
 mod Fuel
+mod Rows
 mod Steps

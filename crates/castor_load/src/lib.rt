@@ -1,8 +1,15 @@
 //! Tables, parameters and answers as records of comma-separated fields.
 #![tactic(auto)]
 
+pub mod error;
+pub mod question;
 pub mod records;
+mod row;
+pub mod table;
 pub mod writer;
 
+pub use error::LoadError;
+pub use question::read_line;
 pub use records::Records;
+pub use table::load;
 pub use writer::RecordWriter;

@@ -1,0 +1,36 @@
+//! The values of a question line.
+
+ghost use Rattle.std.specs.Prelude.{◌≡◌, ◌≤◌, IfOk, length};
+ghost use Rattle.castor_load.specs.Lines.{line_values};
+
+use crate::error::LoadError;
+use crate::records::Records;
+use crate::row::read_row;
+use castor_val::{Column, Memory, Row};
+use csv::ByteRecord;
+use std::alloc::Global;
+
+/// The values that a line gives to parameters, if it is accepted.
+pub fn read_line(alloc: Global, params: &[Column], line: &[u8]) -> Result<Option<Row>, Memory>
+    requires { length params.now ≤ 64 }
+    ensures { IfOk result (λ values. values ≡ line_values params.now line.now) }
+{
+    let mut records = Records::new(alloc, line);
+    let mut fields = ByteRecord::new(alloc);
+    if !records.next(&mut fields)? {
+        return if params.is_empty() {
+            Ok(Some(Row::new(alloc)))
+        } else {
+            Ok(None)
+        };
+    }
+    let mut more = ByteRecord::new(alloc);
+    if records.next(&mut more)? {
+        return Ok(None);
+    }
+    match read_row(alloc, params, 0, &fields) {
+        Ok(row) => Ok(Some(row)),
+        Err(LoadError::Memory) => Err(Memory),
+        Err(_) => Ok(None),
+    }
+}

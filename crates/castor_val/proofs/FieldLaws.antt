@@ -133,8 +133,8 @@ int_field_fits bytes v true true n i e = let read : int_field bytes ≡ Ok (Int 
 int_field_fits bytes v true false n i e = let read : int_field bytes ≡ Err NotOfType = rw (n, i) refl in cc
 int_field_fits bytes v false int n i e = let read : int_field bytes ≡ Err NotOfType = rw n refl in cc
 
-bool_field_fits : (bytes : List ℕ) (v : Value) (is_true is_false : Bool) → bytes_eq bytes true_text ≡ is_true → bytes_eq bytes false_text ≡ is_false → bool_field bytes ≡ Ok v → value_fits v ty.Bool ≡ true
-bool_field_fits bytes v true is_false y n e = let read : bool_field bytes ≡ Ok (Truth true) = rw y refl in let is : v ≡ Truth true = cc in rw is refl
+bool_field_fits : (bytes : List ℕ) (v : Value) (first second : Bool) → bytes_eq bytes true_text ≡ first → bytes_eq bytes false_text ≡ second → bool_field bytes ≡ Ok v → value_fits v ty.Bool ≡ true
+bool_field_fits bytes v true second y n e = let read : bool_field bytes ≡ Ok (Truth true) = rw y refl in let is : v ≡ Truth true = cc in rw is refl
 bool_field_fits bytes v false true y n e = let read : bool_field bytes ≡ Ok (Truth false) = rw (y, n) refl in let is : v ≡ Truth false = cc in rw is refl
 bool_field_fits bytes v false false y n e = let read : bool_field bytes ≡ Err NotOfType = rw (y, n) refl in cc
 

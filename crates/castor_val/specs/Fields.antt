@@ -1,9 +1,9 @@
 -- The value that a field of text is read as, and the text that a value is printed as.
-use Rattle.std.specs.Prelude.{ℕ, ◌^◌, List, true, false, ◌&&◌, Bool, Result, Ok, Err, if◌then◌else◌, nat_le, nat_lt, length}
+use Rattle.std.specs.Prelude.{◌≡◌, ℕ, ◌^◌, List, true, false, ◌&&◌, Bool, Result, Ok, Err, if◌then◌else◌, nat_le, nat_lt, length}
 use Rattle.std.specs.Fmt.{signed_decimal}
 use Rattle.std.specs.Str.{all_ascii_digits, bytes_eq, is_utf8}
 use Rattle.std.specs.Str.Parse.{true_text, false_text, without_leading_sign, signed_digits_value}
-use Rattle.castor_val.specs.Values.{is_int}
+use Rattle.castor_val.specs.Values.{is_int, value_fits}
 use Rattle.castor_val.specs.declared.value.Ty.{Ty}
 use Rattle.castor_val.specs.declared.value.Ty.TheVariants as ty
 use Rattle.castor_val.specs.declared.value.Value.{Value}
@@ -39,3 +39,7 @@ value_text (Int z) = signed_decimal z
 value_text (Truth true) = true_text
 value_text (Truth false) = false_text
 value_text (Text t) = t
+
+-- as a field of any type that it fits, a value's text is read as the value
+abbrev pub ReadsBack : Value → Type 0
+ReadsBack v = (t : Ty) → value_fits v t ≡ true → field_value t (value_text v) ≡ Ok v

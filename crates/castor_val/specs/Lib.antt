@@ -1,3 +1,4 @@
+pub mod Cells
 pub mod Fields
 pub mod Gives
 pub mod Values

@@ -13,6 +13,8 @@ use Rattle.castor_val.specs.declared.value.Value.{Value}
 use Rattle.castor_val.specs.declared.value.Value.TheVariants.{Int, Bool as Truth, Text}
 use Rattle.castor_val.specs.declared.value.Cell.{Cell}
 use Rattle.castor_val.specs.declared.value.Cell.TheVariants as cell
+use Rattle.castor_val.specs.declared.fault.Fault.{Fault}
+use Rattle.castor_val.specs.declared.fault.Fault.TheVariants as fault
 use Rattle.castor_val.specs.declared.fault.Faults.{Faults}
 use Rattle.castor_val.specs.declared.row.Row.{Row}
 use Rattle.castor_val.specs.declared.table.Table.{Table}
@@ -89,6 +91,10 @@ value_cmp (Text x) (Int y) = Greater
 value_cmp (Text x) (Truth y) = Greater
 value_cmp (Text x) (Text y) = slice_cmp nat_cmp x y
 
+-- whether two values are equal
+abbrev pub same_value : Value → Value → Bool
+same_value a b = is_eq (value_cmp a b)
+
 -- the order of rows: by the first value in which they differ, a row before its extensions
 abbrev pub row_cmp : Row → Row → Ordering
 row_cmp a b = slice_cmp value_cmp a b
@@ -97,10 +103,15 @@ row_cmp a b = slice_cmp value_cmp a b
 abbrev pub same_row : Row → Row → Bool
 same_row a b = is_eq (row_cmp a b)
 
--- the order of values is total, and only equal values tie
+-- the order of values is total, and ties only equal values
 pub record IsValueOrder : Type 0 where
   pub total : IsTotalOrder value_cmp
   pub tied : (a b : Value) → value_cmp a b ≡ Equal → a ≡ b
+
+-- the order of rows is total, and ties only equal rows
+pub record IsRowOrder : Type 0 where
+  pub total : IsTotalOrder row_cmp
+  pub tied : (a b : Row) → row_cmp a b ≡ Equal → a ≡ b
 
 -- the empty set of faults
 abbrev pub no_faults : Faults
@@ -117,6 +128,18 @@ overflow_fault = record { division = false; overflow = true; norows = false }
 -- the set of norows alone
 abbrev pub norows_fault : Faults
 norows_fault = record { division = false; overflow = false; norows = true }
+
+-- the set of a fault alone
+abbrev pub fault_set : Fault → Faults
+fault_set fault.Division = division_fault
+fault_set fault.Overflow = overflow_fault
+fault_set fault.NoRows = norows_fault
+
+-- whether a set has a fault
+abbrev pub has_fault : Faults → Fault → Bool
+has_fault faults fault.Division = faults.division
+has_fault faults fault.Overflow = faults.overflow
+has_fault faults fault.NoRows = faults.norows
 
 -- the faults that are in either set
 abbrev pub union : Faults → Faults → Faults

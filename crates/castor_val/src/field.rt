@@ -1,10 +1,10 @@
 //! What a field of text is read as.
 
-ghost use Rattle.std.specs.Prelude.{◌≡◌, option_map};
+ghost use Rattle.std.specs.Prelude.{◌≡◌, IfOk, IfSome, IsTrue, option_map};
 ghost use Rattle.std.specs.Result.{result_ok};
 ghost use Rattle.castor_val.specs.Fields.{bool_field, field_value, int_field, text_field};
 ghost use Rattle.castor_val.specs.Gives.{Gives};
-ghost use Rattle.castor_val.specs.Values.{value_of};
+ghost use Rattle.castor_val.specs.Values.{value_fits, value_of};
 ghost use Rattle.castor_val.specs.declared.field.FieldError.TheVariants as error;
 
 use crate::memory::Memory;
@@ -41,7 +41,8 @@ impl Value {
     /// `NotOfType` comes exactly where the field is not of the type, and `TooLong` exactly where
     /// the type is that of texts and the field has more than 65,535 bytes. Linear in the length.
     pub fn from_field(alloc: Global, ty: Ty, field: &str) -> Result<Value, FieldError>
-        ensures { Gives (λ v. v) error.Memory (field_value ty field.now) result }
+        ensures value { Gives (λ v. v) error.Memory (field_value ty field.now) result }
+        ensures fits { IfOk result (λ v. IsTrue (value_fits v ty)) }
     {
         match Cell::from_field(ty, field) {
             Some(cell) => Ok(cell.to_value(alloc)?),
@@ -61,7 +62,8 @@ impl<'a> Cell<'a> {
     /// number may be leading zeros. A bool is `true` or `false`. A text is any text of at most
     /// 65,535 bytes. Linear in the length.
     pub fn from_field(ty: Ty, field: &'a str) -> Option<Cell<'a>>
-        ensures { option_map value_of result ≡ result_ok (field_value ty field.now) }
+        ensures value { option_map value_of result ≡ result_ok (field_value ty field.now) }
+        ensures fits { IfSome result (λ c. IsTrue (value_fits (value_of c) ty)) }
     {
         match ty {
             Ty::Int => int_from(field),

@@ -3,3 +3,4 @@ mod Fields
 mod Fuel
 mod Rows
 mod Steps
+mod Written

@@ -10,5 +10,5 @@ returns-in_default c = sym (field_read-no_text c.args.ty c.args.field.now c.in_d
 pub returns-in_ok-to_value-in-Some : goal.returns-in_ok-to_value-in-Some
 returns-in_ok-to_value-in-Some c =
     let text = c.in-Ok.ensures.cases in
-    ap Some c.in_ok-to_value-in-Some.ensures ∙ c.in-Some.ensures ∙ ap (λ t. result_ok (field_value c.args.ty t)) text.0
+    ap Some c.in_ok-to_value-in-Some.ensures ∙ c.in-Some.ensures.value ∙ ap (λ t. result_ok (field_value c.args.ty t)) text.0
     ∙ sym (field_read-text c.args.ty c.args.field.now text.1)

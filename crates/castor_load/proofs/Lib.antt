@@ -1,5 +1,5 @@
 mod AnyLengths
-mod Fields
+mod Fits
 mod Fuel
 mod Rows
 mod Steps

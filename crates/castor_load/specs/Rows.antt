@@ -1,9 +1,9 @@
 -- The rows of a file of records, or why the file is refused.
-use Rattle.std.specs.Prelude.{ℕ, List, [], ◌∷◌, ◌==◌, Option, None, Result, Ok, Err, if◌then◌else◌, length, map, ok_or}
+use Rattle.std.specs.Prelude.{ℕ, List, [], ◌∷◌, ◌==◌, Option, Result, Ok, Err, if◌then◌else◌, length, map, ok_or}
 use Rattle.std.specs.Cmp.Lexicographic.{pointwise}
 use Rattle.std.specs.List.{enumerate_from, zip}
 use Rattle.std.specs.Result.{result_ok}
-use Rattle.std.specs.Str.{bytes_eq, is_utf8}
+use Rattle.std.specs.Str.{bytes_eq}
 use Rattle.csv.specs.Reading.{default_config, records, strip_bom}
 use Rattle.castor_val.specs.Fields.{field_value}
 use Rattle.castor_val.specs.declared.column.Column.{Column}
@@ -22,9 +22,9 @@ types_of columns = map (λ c. c.ty) columns
 abbrev pub names_of : List Column → List (List ℕ)
 names_of columns = map (λ c. c.name) columns
 
--- the value that a field is read as, if it is UTF-8 and of the type
+-- the value that a field is read as, if it is of the type
 abbrev pub field_read : Ty → List ℕ → Option Value
-field_read ty field = if is_utf8 field then result_ok (field_value ty field) else None
+field_read ty field = result_ok (field_value ty field)
 
 -- an answer before those that come after it: all of them, or the first refusal
 abbrev pub and_more : {X E : Type 0} → Result X E → Result (List X) E → Result (List X) E

@@ -1,7 +1,9 @@
 //! The values of a question line.
 
-ghost use Rattle.std.specs.Prelude.{◌≡◌, ◌≤◌, IfOk, length};
+ghost use Rattle.std.specs.Prelude.{◌≡◌, ◌≤◌, IfOk, IfSome, IsTrue, length};
+ghost use Rattle.castor_val.specs.Values.{row_fits};
 ghost use Rattle.castor_load.specs.Lines.{line_values};
+ghost use Rattle.castor_load.specs.Rows.{types_of};
 
 use crate::error::LoadError;
 use crate::records::Records;
@@ -13,7 +15,8 @@ use std::alloc::Global;
 /// The values that a line gives to parameters, if it is accepted.
 pub fn read_line(alloc: Global, params: &[Column], line: &[u8]) -> Result<Option<Row>, Memory>
     requires { length params.now ≤ 64 }
-    ensures { IfOk result (λ values. values ≡ line_values params.now line.now) }
+    ensures exact { IfOk result (λ values. values ≡ line_values params.now line.now) }
+    ensures fits { IfOk result (λ values. IfSome values (λ row. IsTrue (row_fits row (types_of params.now)))) }
 {
     let mut records = Records::new(alloc, line);
     let mut fields = ByteRecord::new(alloc);

@@ -1,6 +1,6 @@
 //! The row of a record.
 
-ghost use Rattle.std.specs.Prelude.{◌≡◌, ◌≤◌, IfOk, length, map};
+ghost use Rattle.std.specs.Prelude.{◌≡◌, ◌≤◌, IfOk, [], length};
 ghost use Rattle.csv.specs.Records.{fields_of};
 ghost use Rattle.castor_val.specs.Gives.{Gives};
 ghost use Rattle.castor_load.specs.Rows.{field_read, row_of, types_of};
@@ -25,6 +25,13 @@ fn read_field(alloc: Global, ty: Ty, field: &[u8]) -> Result<Option<Value>, Memo
     }
 }
 
+// A row of no values, with room for this many.
+fn row_with_room(alloc: Global, values: usize) -> Result<Row, Memory>
+    ensures { IfOk result (λ row. row ≡ []) }
+{
+    Ok(Row::from_vec(Vec::with_capacity(alloc, values)?))
+}
+
 /// The row of the record with this number: as many fields as columns, each of its column's type.
 ///
 /// `BadRecord` comes exactly where the number of fields differs, else `BadField` at the first field
@@ -41,27 +48,18 @@ pub(crate) fn read_row(
     if fields.len() != columns.len() {
         return Err(LoadError::BadRecord { number });
     }
-    let Ok(mut values) = Vec::with_capacity(alloc, columns.len()) else {
-        return Err(LoadError::Memory);
-    };
+    let mut row = row_with_room(alloc, columns.len())?;
     for (i, column) in columns.iter().enumerate() {
         let Some(field) = fields.get(i) else {
             return Err(LoadError::BadRecord { number });
         };
-        match read_field(alloc, column.ty, field) {
-            Ok(Some(value)) => {
-                if values.push(value).is_err() {
-                    return Err(LoadError::Memory);
-                }
-            }
-            Ok(None) => {
-                return Err(LoadError::BadField {
-                    number,
-                    column: i as u32,
-                });
-            }
-            Err(Memory) => return Err(LoadError::Memory),
-        }
+        let Some(value) = read_field(alloc, column.ty, field)? else {
+            return Err(LoadError::BadField {
+                number,
+                column: i as u32,
+            });
+        };
+        row.push(value)?;
     }
-    Ok(Row::from_vec(values))
+    Ok(row)
 }

@@ -37,7 +37,8 @@ fn is_header(columns: &[Column], fields: &ByteRecord) -> bool
 /// The table of a file: the records after the header as rows of the columns' types.
 pub fn load(alloc: Global, columns: &[Column], bytes: &[u8]) -> Result<Table, LoadError>
     requires { length columns.now ≤ 64 }
-    ensures { Gives (λ table. table) error.Memory (table_of columns.now bytes.now) result }
+    ensures exact { Gives (λ table. table) error.Memory (table_of columns.now bytes.now) result }
+    ensures fits { IfOk result (λ table. IsTrue (table_fits table (types_of columns.now))) }
 {
     let mut records = Records::new(alloc, bytes);
     let mut fields = ByteRecord::new(alloc);

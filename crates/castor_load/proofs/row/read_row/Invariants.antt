@@ -7,5 +7,5 @@ use Rattle.castor_load.proofs.row.read_row.Given as goal
 abbrev pub invariant-loop-i : goal.invariant-loop-i
 invariant-loop-i l = record {
   same : length (fields_of l.fields) ≡ length l.columns;
-  rest : row_of l.number (types_of l.columns) (fields_of l.fields) ≡ after l.values.items (values_from l.number l.i (types_of (drop l.i l.columns)) (drop l.i (fields_of l.fields)));
+  rest : row_of l.number (types_of l.columns) (fields_of l.fields) ≡ after l.row (values_from l.number l.i (types_of (drop l.i l.columns)) (drop l.i (fields_of l.fields)));
 }

@@ -1,6 +1,8 @@
 use Rattle.std.proofs.Common.{◌≡◌, ◌∙◌, ◌∷◌, ◌+◌, [], sym, ap, refl, rules, inl, inr, Ok, Err}
 use Rattle.std.proofs.lemmas.List.{append-nil}
+use Rattle.csv.specs.Reading.{default_config, records, strip_bom}
 use Rattle.castor_load.specs.Reading.{records_left}
+use Rattle.castor_load.proofs.Fits.{table_of-fits}
 use Rattle.castor_load.specs.Rows.{rows_from, types_of}
 use Rattle.castor_load.proofs.Rows.{after, after-append, and_more-after, rows_from-none, rows_from-some}
 use Rattle.castor_load.proofs.table.load.Goals as goal
@@ -8,12 +10,16 @@ use Rattle.castor_load.proofs.table.load.Goals as goal
 pub returns-then-not-branch-2 : goal.returns-then-not-branch-2
 returns-then-not-branch-2 c =
     let none = rw c.if-not-branch-2.true at c.in_ok-next-2.ensures in
-    c.loop-number.invariant.rest
+    let exact = c.loop-number.invariant.rest
     ∙ ap (after c.loop-number.table) (rows_from-none c.loop-number.number (types_of c.args.columns.now) (records_left c.loop-number.records) none)
-    ∙ ap Ok (append-nil c.loop-number.table)
+    ∙ ap Ok (append-nil c.loop-number.table) in
+    record {
+      exact = exact;
+      fits = table_of-fits c.args.columns.now (records default_config (strip_bom c.args.bytes.now)) c.loop-number.table exact;
+    }
 
-pub returns-in_err-row : goal.returns-in_err-row
-returns-in_err-row c =
+pub returns-in_err-row-clause-exact : goal.returns-in_err-row-clause-exact
+returns-in_err-row-clause-exact c =
     let some = rw c.if-not-branch-2.false at c.in_ok-next-2.ensures in
     let is : c.from_residual-in_err-row.result ≡ Err c.in_err-row.field-0.0 = search rules in
     rw is (elim c.in_err-row.ensures [

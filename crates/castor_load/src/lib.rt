@@ -6,6 +6,8 @@ pub mod question;
 pub mod records;
 mod row;
 pub mod table;
+#[cfg(test)]
+mod tests;
 pub mod writer;
 
 pub use error::LoadError;

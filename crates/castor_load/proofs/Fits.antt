@@ -1,5 +1,5 @@
 -- Rows and tables that are read fit the types.
-use Rattle.std.proofs.Common.{◌≡◌, ℕ, suc, ◌+◌, ◌==◌, ◌&&◌, List, [], ◌∷◌, Option, Some, None, Result, Ok, Err, Bool, true, false, length, map, ok_or, if◌then◌else◌, refl, ap, sym, arith}
+use Rattle.std.proofs.Common.{◌≡◌, ℕ, ◌+◌, ◌==◌, List, [], ◌∷◌, Result, Ok, Err, Bool, true, false, length, ok_or, if◌then◌else◌, refl, ap, arith}
 use Rattle.std.proofs.lemmas.Bool.{eqb-true}
 use Rattle.std.specs.Cmp.Lexicographic.{pointwise}
 use Rattle.std.specs.Result.{result_ok}
@@ -11,9 +11,7 @@ use Rattle.castor_val.specs.declared.column.Column.{Column}
 use Rattle.castor_val.specs.declared.row.Row.{Row}
 use Rattle.castor_val.specs.declared.table.Table.{Table}
 use Rattle.castor_val.specs.declared.value.Ty.{Ty}
-use Rattle.castor_load.specs.Lines.{values_of_records}
 use Rattle.castor_load.specs.Rows.{all_or_refusal, and_more, names_of, row_of, rows_from, table_of_records, types_of, values_from}
-use Rattle.castor_load.specs.declared.error.LoadError.{LoadError}
 use Rattle.castor_load.specs.declared.error.LoadError.TheVariants.{BadField, BadHeader, BadRecord}
 
 -- what was read first, and what was read after it

@@ -14,6 +14,10 @@ use Rattle.castor_val.specs.declared.value.Value.{Value}
 use Rattle.castor_load.specs.declared.error.LoadError.{LoadError}
 use Rattle.castor_load.specs.declared.error.LoadError.TheVariants.{BadHeader, BadRecord, BadField}
 
+-- a record is the list of its fields, each a list of bytes
+abbrev pub Record : Type 0
+Record = List (List ℕ)
+
 -- the types of columns
 abbrev pub types_of : List Column → List Ty
 types_of columns = map (λ c. c.ty) columns
@@ -38,19 +42,19 @@ all_or_refusal [] = Ok []
 all_or_refusal (answer ∷ more) = and_more answer (all_or_refusal more)
 
 -- the values of fields from a column on, in the record of this number
-abbrev pub values_from : ℕ → ℕ → List Ty → List (List ℕ) → Result Row LoadError
+abbrev pub values_from : ℕ → ℕ → List Ty → Record → Result Row LoadError
 values_from number column types fields = all_or_refusal (map (λ f. ok_or (field_read f.1.0 f.1.1) (BadField number f.0)) (enumerate_from column (zip types fields)))
 
 -- the row of the record of this number: as many fields as types, each of its type
-abbrev pub row_of : ℕ → List Ty → List (List ℕ) → Result Row LoadError
+abbrev pub row_of : ℕ → List Ty → Record → Result Row LoadError
 row_of number types fields = if length fields == length types then values_from number 0 types fields else Err (BadRecord number)
 
 -- the rows of records, the first of which has this number
-abbrev pub rows_from : ℕ → List Ty → List (List (List ℕ)) → Result Table LoadError
+abbrev pub rows_from : ℕ → List Ty → List Record → Result Table LoadError
 rows_from number types rest = all_or_refusal (map (λ r. row_of r.0 types r.1) (enumerate_from number rest))
 
 -- the table of records: the header, which is the names of the columns in order, and then the rows
-abbrev pub table_of_records : List Column → List (List (List ℕ)) → Result Table LoadError
+abbrev pub table_of_records : List Column → List Record → Result Table LoadError
 table_of_records columns [] = Err BadHeader
 table_of_records columns (header ∷ rest) = if pointwise bytes_eq header (names_of columns) then rows_from 1 (types_of columns) rest else Err BadHeader
 

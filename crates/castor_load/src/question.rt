@@ -12,11 +12,18 @@ use castor_val::{Column, Memory, Row};
 use csv::ByteRecord;
 use std::alloc::Global;
 
-/// The values that a line gives to parameters, if it is accepted.
+/// The values that a line gives to parameters, or None where it isn't accepted.
+///
+/// The line, without its line end, is read by `csv` as a text of its own. It is accepted exactly
+/// where there are no parameters and it holds no record, or where it holds one record of as many
+/// fields as there are parameters, each of its parameter's type by `Cell::from_field`. So a byte
+/// order mark at its start is dropped, a line that is a CR alone holds no record, and an empty text
+/// is written `""`. Linear in the bytes of the line.
 pub fn read_line(alloc: Global, params: &[Column], line: &[u8]) -> Result<Option<Row>, Memory>
     requires { length params.now ≤ 64 }
     ensures exact { IfOk result (λ values. values ≡ line_values params.now line.now) }
-    ensures fits { IfOk result (λ values. IfSome values (λ row. IsTrue (row_fits row (types_of params.now)))) }
+    ensures fits { IfOk result (λ values. IfSome values (λ row.
+        IsTrue (row_fits row (types_of params.now)))) }
 {
     let mut records = Records::new(alloc, line);
     let mut fields = ByteRecord::new(alloc);

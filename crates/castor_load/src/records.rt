@@ -10,8 +10,8 @@ use castor_val::Memory;
 use csv::{ByteRecord, Reader, ReaderBuilder};
 use std::alloc::Global;
 
-/// The records that are left of a text, by the rules of `csv` with its defaults, but that no record
-/// is taken for a header and that records may differ in their numbers of fields.
+/// The records that are left of a text, as `csv` reads them with its defaults. No record is taken
+/// for a header, and records may differ in their numbers of fields.
 ///
 /// A comma ends a field and a CR, an LF or both end a record. A field that begins with `"` goes on
 /// to the next `"` that isn't doubled, or to the end of the text. Empty lines are no records, and
@@ -22,7 +22,7 @@ pub struct Records<'a> {
 }
 
 impl<'a> Records<'a> {
-    /// The records of a text.
+    /// The records of a text. Takes no memory until the first is read.
     pub fn new(alloc: Global, text: &'a [u8]) -> Records<'a>
         ensures reading { IsReading result }
         ensures left { records_left result ≡ records default_config (strip_bom text.now) }
@@ -35,13 +35,15 @@ impl<'a> Records<'a> {
         }
     }
 
-    /// Puts the next record into `into`, and says whether there was one. Linear in its bytes.
+    /// Puts the next record into `into`, and says whether there was one. Linear in its bytes, and
+    /// the memory of the record before is used again.
     ///
     /// After `Memory` no further record can be read.
     pub fn next(&mut self, into: &mut ByteRecord) -> Result<bool, Memory>
         requires { IsReading self.old }
         ensures { IfOk result (λ found. MatchBool found
-            (IsReading self.new × (records_left self.old ≡ fields_of into.new ∷ records_left self.new))
+            (IsReading self.new
+            × (records_left self.old ≡ fields_of into.new ∷ records_left self.new))
             (records_left self.old ≡ [])) }
     {
         if let Ok(found) = self.reader.read_byte_record(into) {

@@ -43,7 +43,8 @@ pub(crate) fn read_row(
     fields: &ByteRecord,
 ) -> Result<Row, LoadError>
     requires { length columns.now ≤ 64 }
-    ensures { Gives (λ row. row) error.Memory (row_of number (types_of columns.now) (fields_of fields.now)) result }
+    ensures { Gives (λ row. row) error.Memory
+        (row_of number (types_of columns.now) (fields_of fields.now)) result }
 {
     if fields.len() != columns.len() {
         return Err(LoadError::BadRecord { number });

@@ -34,7 +34,20 @@ fn is_header(columns: &[Column], fields: &ByteRecord) -> bool
     true
 }
 
-/// The table of a file: the records after the header as rows of the columns' types.
+/// The table of a file of records: the header, and then the rows.
+///
+/// The records are those that `csv` reads with its defaults, numbered from 0. A byte order mark at
+/// the start is dropped, and empty lines are no records. Record 0 is the header, which must be the
+/// names of the columns in their order; each later record is a row, which must have as many fields
+/// as there are columns, each of its column's type by `Cell::from_field`.
+///
+/// `BadHeader` comes exactly where record 0 is missing or isn't the names. Of the first record
+/// after it that doesn't fit, `BadRecord` tells where its number of fields differs, and else
+/// `BadField` tells its first field that isn't of its type, with the columns counted from 0.
+///
+/// One record is read at a time. Time is linear in the bytes. Beside the bytes and one record the
+/// memory is that of the rows alone: 24 bytes a row, 32 a value, and the bytes of its texts, with
+/// an allocation for each row and each text. The list of rows grows by doubling.
 pub fn load(alloc: Global, columns: &[Column], bytes: &[u8]) -> Result<Table, LoadError>
     requires { length columns.now ≤ 64 }
     ensures exact { Gives (λ table. table) error.Memory (table_of columns.now bytes.now) result }

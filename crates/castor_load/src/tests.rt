@@ -241,7 +241,7 @@ fn writes_records_after_what_was_written(rt: HostRuntime) -> Result<(), Fail> {
     writer.write_row(&row)?;
     writer.write_cells(&[Cell::Bool(true), Cell::Text("é,"), Cell::Text("")])?;
     writer.write_cells(&[Cell::Text("")])?;
-    writer.write(&[b"a\nb", b"c\rd", b" e "])?;
+    writer.write_cells(&[Cell::Text("a\nb"), Cell::Text("c\rd"), Cell::Text(" e ")])?;
     let text = writer.finish()?;
     let due = "rows 2\nid,sum\n-3,\"a \"\"b\"\"\"\ntrue,\"é,\",\n\"\"\n\"a\nb\",\"c\rd\", e \n";
     assert_eq!(rt; text.as_slice(), due.as_bytes());

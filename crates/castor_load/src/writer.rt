@@ -10,11 +10,12 @@ ghost use Rattle.castor_load.specs.Written.{HasWritten, IsWriting, text_of};
 use castor_val::{Cell, Column, Memory, Row, TextBuffer};
 use csv::{Writer, WriterBuilder};
 
-/// A text to whose end records are written, by the rules of `csv` with its defaults, but that
-/// records may differ in their numbers of fields.
+/// A text to whose end records are written, each as the default writer of `csv` writes it. Records
+/// may differ in their numbers of fields.
 ///
 /// Commas stand between fields and an LF ends a record. A field with a comma, a quote, a CR or an
-/// LF in it gets quotes around it and its quotes doubled, and so does one empty field alone.
+/// LF in it gets quotes around it and its quotes doubled, and an empty field that is alone in its
+/// record gets quotes.
 #[derive(Drop)]
 pub struct RecordWriter {
     writer: Writer<Vec<u8>>,
@@ -22,7 +23,9 @@ pub struct RecordWriter {
 
 // Writes one more field of a record.
 fn put_field(writer: &mut Writer<Vec<u8>>, field: &[u8]) -> Result<(), Memory>
-    ensures { OnOk result ((before : List ℕ) (fields : List (List ℕ)) → length fields + 1 < 2 ^ 64 → HasWritten writer.old before fields → HasWritten writer.new before (fields ++ field.now ∷ [])) }
+    ensures { OnOk result ((before : List ℕ) (fields : List (List ℕ)) → length fields + 1 < 2 ^ 64
+        → HasWritten writer.old before fields
+        → HasWritten writer.new before (fields ++ field.now ∷ [])) }
 {
     if let Ok(()) = writer.write_field(field) {
         return Ok(());
@@ -43,24 +46,11 @@ impl RecordWriter {
 
     // Ends a record.
     fn end(&mut self) -> Result<(), Memory>
-        ensures { OnOk result ((before : List ℕ) (fields : List (List ℕ)) → HasWritten self.old.writer before fields
+        ensures { OnOk result ((before : List ℕ) (fields : List (List ℕ))
+            → HasWritten self.old.writer before fields
             → IsWriting self.new × (text_of self.new ≡ before ++ row_text default_writer fields)) }
     {
         if let Ok(()) = self.writer.end_record() {
-            return Ok(());
-        }
-        Err(Memory)
-    }
-
-    /// Writes a record of fields of bytes. Linear in the bytes.
-    ///
-    /// After `Memory` nothing more can be written.
-    pub fn write(&mut self, fields: &[&[u8]]) -> Result<(), Memory>
-        requires { IsWriting self.old }
-        ensures writing { OnOk result (IsWriting self.new) }
-        ensures text { OnOk result (text_of self.new ≡ text_of self.old ++ row_text default_writer (map (λ f. f.now) fields.now)) }
-    {
-        if let Ok(()) = self.writer.write_fields(fields) {
             return Ok(());
         }
         Err(Memory)
@@ -72,7 +62,8 @@ impl RecordWriter {
     pub fn write_names(&mut self, columns: &[Column]) -> Result<(), Memory>
         requires { IsWriting self.old }
         ensures writing { OnOk result (IsWriting self.new) }
-        ensures text { OnOk result (text_of self.new ≡ text_of self.old ++ row_text default_writer (names_of columns.now)) }
+        ensures text { OnOk result (text_of self.new
+            ≡ text_of self.old ++ row_text default_writer (names_of columns.now)) }
     {
         for column in columns {
             put_field(&mut self.writer, column.name.as_str().as_bytes())?;
@@ -86,7 +77,8 @@ impl RecordWriter {
     pub fn write_row(&mut self, row: &Row) -> Result<(), Memory>
         requires { IsWriting self.old }
         ensures writing { OnOk result (IsWriting self.new) }
-        ensures text { OnOk result (text_of self.new ≡ text_of self.old ++ row_text default_writer (map value_text row.now)) }
+        ensures text { OnOk result (text_of self.new
+            ≡ text_of self.old ++ row_text default_writer (map value_text row.now)) }
     {
         for value in row.as_slice() {
             let mut buffer = TextBuffer::new();
@@ -101,7 +93,8 @@ impl RecordWriter {
     pub fn write_cells(&mut self, row: &[Cell<'_>]) -> Result<(), Memory>
         requires { IsWriting self.old }
         ensures writing { OnOk result (IsWriting self.new) }
-        ensures text { OnOk result (text_of self.new ≡ text_of self.old ++ row_text default_writer (map value_text (map value_of row.now))) }
+        ensures text { OnOk result (text_of self.new
+            ≡ text_of self.old ++ row_text default_writer (map value_text (map value_of row.now))) }
     {
         for cell in row {
             let mut buffer = TextBuffer::new();
@@ -110,7 +103,8 @@ impl RecordWriter {
         self.end()
     }
 
-    /// The bytes from before the first record, and then the records.
+    /// The bytes from before the first record, and then the records. Linear in the last few
+    /// thousand bytes, which are buffered till then.
     pub fn finish(self) -> Result<Vec<u8>, Memory>
         requires { IsWriting self }
         ensures { IfOk result (λ text. text.items ≡ text_of self) }

@@ -4,7 +4,8 @@ use Rattle.std.specs.Result.{result_ok}
 use Rattle.csv.specs.Reading.{default_config, records, strip_bom}
 use Rattle.castor_val.specs.declared.column.Column.{Column}
 use Rattle.castor_val.specs.declared.row.Row.{Row}
-use Rattle.castor_load.specs.Rows.{Record, row_of, types_of}
+use Rattle.castor_load.specs.Rows.{row_of, types_of}
+use Rattle.castor_load.specs.Words.{Record}
 
 -- the values of records: none where there are no parameters, else those of the one record
 abbrev pub values_of_records : List Column → List Record → Option Row

@@ -5,6 +5,7 @@ use Rattle.csv.specs.Reading.{Ready, default_config, is_flexible, reader_config,
 use Rattle.csv.specs.declared.parser.State.{State}
 use Rattle.csv.specs.declared.reader.Reader.{Reader}
 use Rattle.csv.specs.declared.reader.Trim.TheVariants as trim
+use Rattle.castor_load.specs.Words.{Record}
 use Rattle.castor_load.specs.declared.records.Records.{Records}
 
 -- the bytes that a slice has left, which are always known
@@ -20,7 +21,7 @@ pub record IsSet (reader : Reader (Bor (List ℕ))) : Type 0 where
   pub source : IsSome (source_of bytes_left reader)
 
 -- the records of bytes, if these are known, from a state of the parser on
-abbrev pub records_of : State → Option (List ℕ) → List (List (List ℕ))
+abbrev pub records_of : State → Option (List ℕ) → List Record
 records_of state None = []
 records_of state (Some bytes) = records_from default_config (length bytes + 1) state bytes
 
@@ -29,5 +30,5 @@ abbrev pub IsReading : Records → Type 0
 IsReading r = IsSet r.reader
 
 -- the records that are left
-abbrev pub records_left : Records → List (List (List ℕ))
+abbrev pub records_left : Records → List Record
 records_left r = records_of (reader_state r.reader) (source_of bytes_left r.reader)

@@ -11,12 +11,9 @@ use Rattle.castor_val.specs.declared.row.Row.{Row}
 use Rattle.castor_val.specs.declared.table.Table.{Table}
 use Rattle.castor_val.specs.declared.value.Ty.{Ty}
 use Rattle.castor_val.specs.declared.value.Value.{Value}
+use Rattle.castor_load.specs.Words.{Record}
 use Rattle.castor_load.specs.declared.error.LoadError.{LoadError}
 use Rattle.castor_load.specs.declared.error.LoadError.TheVariants.{BadHeader, BadRecord, BadField}
-
--- a record is the list of its fields, each a list of bytes
-abbrev pub Record : Type 0
-Record = List (List ℕ)
 
 -- the types of columns
 abbrev pub types_of : List Column → List Ty

@@ -1,4 +1,4 @@
-//! Why a table was refused.
+//! Why a file is no table.
 
 use castor_val::Memory as NoMemory;
 use thiserror::Error;
@@ -12,10 +12,18 @@ pub enum LoadError {
     BadHeader,
     /// The record has more fields than there are columns, or fewer.
     #[error("record {number} has another number of fields than the header")]
-    BadRecord { number: u64 },
+    BadRecord {
+        /// The record's number.
+        number: u64,
+    },
     /// The field of the record is not of its column's type.
     #[error("field {column} of record {number} is not of the type of its column")]
-    BadField { number: u64, column: u32 },
+    BadField {
+        /// The record's number.
+        number: u64,
+        /// The number of the field and its column.
+        column: u32,
+    },
     /// There was no memory for the table.
     #[error("out of memory")]
     Memory,

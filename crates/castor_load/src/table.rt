@@ -1,6 +1,6 @@
 //! The table of a file of records.
 
-ghost use Rattle.std.specs.Prelude.{◌≡◌, ◌≤◌, IfOk, IsTrue, length, map};
+ghost use Rattle.std.specs.Prelude.{◌≡◌, ◌≤◌, IfOk, IsTrue, length};
 ghost use Rattle.std.specs.Cmp.Lexicographic.{pointwise};
 ghost use Rattle.std.specs.Str.{bytes_eq};
 ghost use Rattle.csv.specs.Records.{fields_of};
@@ -66,5 +66,6 @@ pub fn load(alloc: Global, columns: &[Column], bytes: &[u8]) -> Result<Table, Lo
         let row = read_row(alloc, columns, number, &fields)?;
         table.push(row)?;
     }
+    // No text that memory holds has so many records.
     Err(LoadError::Memory)
 }

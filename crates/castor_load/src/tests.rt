@@ -172,6 +172,29 @@ fn loads_texts_of_at_most_65_535_bytes(rt: HostRuntime) -> Result<(), Fail> {
     Ok(())
 }
 
+#[test]
+fn tells_why_in_words(rt: HostRuntime) -> Result<(), Fail> {
+    for (why, words) in [
+        (
+            LoadError::BadHeader,
+            "the header is not the names of the columns",
+        ),
+        (
+            LoadError::BadRecord { number: 2 },
+            "record 2 has another number of fields than the header",
+        ),
+        (
+            bad_field(7, 0),
+            "field 0 of record 7 is not of the type of its column",
+        ),
+        (LoadError::Memory, "out of memory"),
+    ] {
+        let told = format!(in rt.alloc(); "{why}")?;
+        assert_eq!(rt; told.as_str(), words);
+    }
+    Ok(())
+}
+
 // Lines of one parameter, with its value where the line is accepted.
 fn lines() -> [(Ty, &'static [u8], Option<Cell<'static>>); 19] {
     let no_text = Some(Cell::Text(""));

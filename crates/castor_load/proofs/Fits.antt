@@ -1,5 +1,5 @@
 -- Rows and tables that are read fit the types.
-use Rattle.std.proofs.Common.{◌≡◌, ℕ, ◌+◌, ◌==◌, List, [], ◌∷◌, Result, Ok, Err, Bool, true, false, length, ok_or, if◌then◌else◌, refl, ap, arith}
+use Rattle.std.proofs.Common.{◌≡◌, ℕ, ◌+◌, ◌==◌, List, [], ◌∷◌, Some, Result, Ok, Err, Bool, true, false, length, ok_or, if◌then◌else◌, refl, ap, arith}
 use Rattle.std.proofs.lemmas.Bool.{eqb-true}
 use Rattle.std.specs.Cmp.Lexicographic.{pointwise}
 use Rattle.std.specs.Result.{result_ok}
@@ -11,6 +11,9 @@ use Rattle.castor_val.specs.declared.column.Column.{Column}
 use Rattle.castor_val.specs.declared.row.Row.{Row}
 use Rattle.castor_val.specs.declared.table.Table.{Table}
 use Rattle.castor_val.specs.declared.value.Ty.{Ty}
+use Rattle.castor_load.specs.Lines.{values_of_records}
+use Rattle.castor_load.specs.Words.{Record}
+use Rattle.castor_load.specs.declared.error.LoadError.{LoadError}
 use Rattle.castor_load.specs.Rows.{all_or_refusal, and_more, names_of, row_of, rows_from, table_of_records, types_of, values_from}
 use Rattle.castor_load.specs.declared.error.LoadError.TheVariants.{BadField, BadHeader, BadRecord}
 
@@ -42,7 +45,7 @@ row_of-fits number types fields row e = by (length fields == length types) refl 
     by true same read = values_fit number 0 types fields row (eqb-true (length fields) (length types) same) read
     by false same read = absurd (cc read)
 
-rows_fit : (number : ℕ) (types : List Ty) (left : List (List (List ℕ))) (table : Table) → rows_from number types left ≡ Ok table → table_fits table types ≡ true
+rows_fit : (number : ℕ) (types : List Ty) (left : List Record) (table : Table) → rows_from number types left ≡ Ok table → table_fits table types ≡ true
 unfolding all_or_refusal
 rows_fit number types [] table e = let none : table ≡ [] = cc e in rw none refl
 rows_fit number types (fields ∷ left) table e =
@@ -50,10 +53,22 @@ rows_fit number types (fields ∷ left) table e =
     rw (all, row_of-fits number types fields row first, rows_fit (number + 1) types left rows more) refl
 
 -- a table that is read fits the types
-pub table_of-fits : (columns : List Column) (rs : List (List (List ℕ))) (table : Table) → table_of_records columns rs ≡ Ok table → table_fits table (types_of columns) ≡ true
+pub table_of-fits : (columns : List Column) (rs : List Record) (table : Table) → table_of_records columns rs ≡ Ok table → table_fits table (types_of columns) ≡ true
 table_of-fits columns [] table e = absurd (cc e)
 table_of-fits columns (header ∷ left) table e = by (pointwise bytes_eq header (names_of columns)) e
   where
     by : (b : Bool) → (if b then rows_from 1 (types_of columns) left else Err BadHeader) ≡ Ok table → table_fits table (types_of columns) ≡ true
     by true read = rows_fit 1 (types_of columns) left table read
     by false read = absurd (cc read)
+
+-- an answer that is given, where only answers that are read fit
+given_fits : (types : List Ty) (r : Result Row LoadError) (row : Row) → ((read : Row) → r ≡ Ok read → row_fits read types ≡ true) → result_ok r ≡ Some row → row_fits row types ≡ true
+given_fits types (Ok read) row fits e = let is : read ≡ row = cc e in fits row (ap Ok is)
+given_fits types (Err why) row fits e = absurd (cc e)
+
+-- values of a line fit the types of the parameters
+pub values_of_records-fits : (params : List Column) (rs : List Record) (row : Row) → values_of_records params rs ≡ Some row → row_fits row (types_of params) ≡ true
+values_of_records-fits [] [] row e = let none : row ≡ [] = cc e in rw none refl
+values_of_records-fits (param ∷ params) [] row e = absurd (cc e)
+values_of_records-fits params (fields ∷ []) row e = given_fits (types_of params) (row_of 0 (types_of params) fields) row (row_of-fits 0 (types_of params) fields) e
+values_of_records-fits params (fields ∷ next ∷ more) row e = absurd (cc e)

@@ -1,5 +1,5 @@
 mod AnyLengths
-mod Fits
+pub mod Fits
 mod Fuel
 mod Rows
 mod Steps

@@ -1,0 +1,12 @@
+pub mod Distinct
+pub mod Expression
+pub mod FreeScopes
+pub mod FreshScope
+pub mod Groups
+pub mod Indexes
+pub mod Meaning
+pub mod Rows
+pub mod Scopes
+pub mod Sizes
+pub mod Sorting
+pub mod Totality

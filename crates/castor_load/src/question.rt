@@ -1,0 +1,46 @@
+//! The values of a question line.
+
+ghost use Rattle.std.specs.Prelude.{◌≡◌, ◌≤◌, IfOk, IfSome, IsTrue, length};
+ghost use Rattle.castor_val.specs.Values.{row_fits};
+ghost use Rattle.castor_load.specs.Lines.{line_values};
+ghost use Rattle.castor_load.specs.Rows.{types_of};
+
+use crate::error::LoadError;
+use crate::records::Records;
+use crate::row::read_row;
+use castor_val::{Column, Memory, Row};
+use csv::ByteRecord;
+use std::alloc::Global;
+
+/// The values that a line gives to parameters, or None where it isn't accepted.
+///
+/// The line, without its line end, is read by `csv` as a text of its own. It is accepted exactly
+/// where there are no parameters and it holds no record, or where it holds one record of as many
+/// fields as there are parameters, each of its parameter's type by `Cell::from_field`. So a byte
+/// order mark at its start is dropped, a line that is a CR alone holds no record, and an empty text
+/// is written `""`. Linear in the bytes of the line.
+pub fn read_line(alloc: Global, params: &[Column], line: &[u8]) -> Result<Option<Row>, Memory>
+    requires { length params.now ≤ 64 }
+    ensures exact { IfOk result (λ values. values ≡ line_values params.now line.now) }
+    ensures fits { IfOk result (λ values. IfSome values (λ row.
+        IsTrue (row_fits row (types_of params.now)))) }
+{
+    let mut records = Records::new(alloc, line);
+    let mut fields = ByteRecord::new(alloc);
+    if !records.next(&mut fields)? {
+        return if params.is_empty() {
+            Ok(Some(Row::new(alloc)))
+        } else {
+            Ok(None)
+        };
+    }
+    let mut more = ByteRecord::new(alloc);
+    if records.next(&mut more)? {
+        return Ok(None);
+    }
+    match read_row(alloc, params, 0, &fields) {
+        Ok(row) => Ok(Some(row)),
+        Err(LoadError::Memory) => Err(Memory),
+        Err(_) => Ok(None),
+    }
+}

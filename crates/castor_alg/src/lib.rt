@@ -7,6 +7,7 @@
 
 pub mod context;
 pub mod env;
+pub mod evaluation;
 pub mod expr;
 pub mod held;
 pub mod out;
@@ -15,6 +16,7 @@ pub mod step;
 
 pub use context::Context;
 pub use env::{Env, OwnedEnv};
+pub use evaluation::value;
 pub use expr::{Expr, Op};
 pub use held::{Entry, Held};
 pub use out::Out;

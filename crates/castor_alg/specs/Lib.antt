@@ -1,6 +1,7 @@
 pub mod Answers
 pub mod Distinct
 pub mod Expression
+pub mod Fits
 pub mod FreeScopes
 pub mod FreshScope
 pub mod Groups
@@ -12,3 +13,4 @@ pub mod Scopes
 pub mod Sizes
 pub mod Sorting
 pub mod Totality
+pub mod Typing

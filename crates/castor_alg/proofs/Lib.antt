@@ -2,3 +2,4 @@ pub mod ExprInduction
 pub mod FreshLaws
 pub mod OperandLaws
 pub mod RelInduction
+pub mod TypingLaws

@@ -13,4 +13,5 @@ pub mod Scopes
 pub mod Sizes
 pub mod Sorting
 pub mod Totality
+pub mod TypeEnvs
 pub mod Typing

@@ -1,5 +1,5 @@
 -- The types of scopes and of lists of parts.
-use Rattle.std.proofs.Common.{◌≡◌, ◌∙◌, ℕ, ◌+◌, ◌<◌, ◌==◌, sym, ap, List, [], ◌∷◌, ◌++◌, length, take, get_or, Bool, true, Option, Some, None, if◌then◌else◌, nat_le, slice_get, option_and_then, ◌&&◌}
+use Rattle.std.proofs.Common.{◌≡◌, ◌∙◌, ℕ, zero, suc, map, arith, ◌+◌, ◌<◌, ◌==◌, refl, sym, ap, List, [], ◌∷◌, ◌++◌, length, take, get_or, Bool, true, Option, Some, None, if◌then◌else◌, nat_le, slice_get, option_and_then, ◌&&◌}
 use Rattle.std.proofs.lemmas.Bool.{eq-eqb, ne_eqb}
 use Rattle.std.proofs.lemmas.List.{take_more}
 use Rattle.std.proofs.lemmas.List.Sums.{fold-append}
@@ -9,7 +9,7 @@ use Rattle.castor_val.specs.declared.value.Ty.TheVariants as ty
 use Rattle.castor_val.specs.declared.value.Value.{Value}
 use Rattle.castor_val.specs.declared.value.Value.TheVariants.{Text}
 use Rattle.castor_alg.specs.declared.context.Context.{Context}
-use Rattle.castor_alg.specs.Typing.{allowed, extended, literal_type, scope_types}
+use Rattle.castor_alg.specs.Typing.{allowed, each, extended, literal_type, scope_types, with_both}
 
 -- the last entry holds where it is for the scope
 pub scope_types-append : (entries : List (ℕ × List Ty)) (entry : ℕ × List Ty) (k : ℕ) → scope_types (entries ++ entry ∷ []) k ≡ (if entry.0 == k then Some entry.1 else scope_types entries k)
@@ -48,3 +48,38 @@ literal_type-text v text bytes found is same utf8 at_length =
     at_length
     ∙ ap (λ (b : List ℕ). allowed (nat_le (length b) 65535) ty.Text) same
     ∙ sym (ap literal_type is ∙ ap (λ (b : Bool). allowed (b && nat_le (length text) 65535) ty.Text) (ap is_utf8 (sym same) ∙ utf8))
+
+module _ {X Y : Type 0} (f : X → Option Y) where
+  abbrev put_last : Option (List Y) → Option Y → Option (List Y)
+  put_last ys y = with_both (λ ys y. ys ++ y ∷ []) ys y
+
+  first_then : (a : Option Y) (ys : Option (List Y)) (y : Option Y) → with_both (λ z zs. z ∷ zs) a (put_last ys y) ≡ put_last (with_both (λ z zs. z ∷ zs) a ys) y
+  first_then None ys y = refl
+  first_then (Some a) None y = refl
+  first_then (Some a) (Some ys) None = refl
+  first_then (Some a) (Some ys) (Some y) = refl
+
+  alone : (y : Option Y) → with_both (λ z zs. z ∷ zs) y (Some []) ≡ put_last (Some []) y
+  alone None = refl
+  alone (Some y) = refl
+
+  each-append : (xs : List X) (x : X) → each (map f (xs ++ x ∷ [])) ≡ put_last (each (map f xs)) (f x)
+  each-append [] x = alone (f x)
+  each-append (z ∷ xs) x = ap (with_both (λ z zs. z ∷ zs) (f z)) (each-append xs x) ∙ first_then (f z) (each (map f xs)) (f x)
+
+  -- one part more
+  pub each-more : (xs : List X) (i : ℕ) (d x : X) (ys : List Y) (y : Y) → i < length xs → x ≡ get_or xs i d → each (map f (take i xs)) ≡ Some ys → f x ≡ Some y → each (map f (take (i + 1) xs)) ≡ Some (ys ++ y ∷ [])
+  each-more xs i d x ys y within is before here =
+      ap (λ (zs : List X). each (map f zs)) (take_more xs i d within ∙ ap (λ (z : X). take i xs ++ z ∷ []) (sym is))
+      ∙ each-append (take i xs) x
+      ∙ (λ j. put_last (before j) (here j))
+
+  -- a part that isn't there
+  pub each-none : (xs : List X) (i : ℕ) (d x : X) → i < length xs → x ≡ get_or xs i d → f x ≡ None → each (map f xs) ≡ None
+  each-none [] i d x within is none = absurd (omega arith)
+  each-none (z ∷ xs) zero d x within is none = ap (λ (w : X). with_both (λ z zs. z ∷ zs) (f w) (each (map f xs))) (sym is) ∙ ap (λ (o : Option Y). with_both (λ z zs. z ∷ zs) o (each (map f xs))) none
+  each-none (z ∷ xs) (suc i) d x within is none = ap (with_both (λ z zs. z ∷ zs) (f z)) (each-none xs i d x (omega arith) is none) ∙ neither (f z)
+    where
+      neither : (o : Option Y) → with_both (λ (z : Y) (zs : List Y). z ∷ zs) o None ≡ None
+      neither None = refl
+      neither (Some a) = refl

@@ -132,10 +132,9 @@ within_limits types = option_and_then (λ columns. allowed (are_columns columns)
 abbrev pub cross_types : List (Option (List Ty)) → Option (List Ty)
 cross_types operands = within_limits (option_map (λ all. flat_map (λ types. types) all) (each operands))
 
--- the column types of the first, where all have the same
+-- the column types of the first, where all have them
 abbrev pub common_types : List (List Ty) → Option (List Ty)
-common_types [] = None
-common_types (first ∷ rest) = allowed (list_all (λ types. same_types first types) rest) first
+common_types operands = option_and_then (λ first. allowed (list_all (λ types. same_types first types) operands) first) (slice_get operands 0)
 
 -- counts and sums are ints, a sum takes an int column, and the least and the greatest have their column's type
 abbrev pub aggregate_type : List Ty → Agg → Option Ty

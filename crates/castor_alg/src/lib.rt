@@ -19,6 +19,7 @@ pub mod sizes;
 pub mod step;
 pub mod totality;
 pub mod type_env;
+pub mod typing;
 
 pub use context::Context;
 pub use env::{Env, OwnedEnv};
@@ -34,3 +35,4 @@ pub use sizes::{depth, expr_depth, expr_nodes, nodes};
 pub use step::{Arg, FlatRule, NestRule, RuleId, Step};
 pub use totality::{is_total, is_total_expr};
 pub use type_env::TypeEnv;
+pub use typing::{TypeError, type_of};

@@ -1,0 +1,2 @@
+pub mod ExprClauseLaws
+pub mod RelClauseLaws

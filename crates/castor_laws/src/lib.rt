@@ -1,0 +1,9 @@
+//! Laws of the algebra: what holds of the meaning of every expression and every relation.
+//!
+//! Each public function here states a law as its contract, and does nothing. The definitions that
+//! the laws speak of stand in castor_alg, the statements under `specs/`, the proofs under `proofs/`.
+#![tactic(auto)]
+
+pub mod clauses;
+
+pub use clauses::{expr_clauses, rel_clauses};

@@ -1,2 +1,3 @@
 pub mod ExprClauseLaws
+pub mod FreeScopeLaws
 pub mod RelClauseLaws

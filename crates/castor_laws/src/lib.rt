@@ -5,5 +5,7 @@
 #![tactic(auto)]
 
 pub mod clauses;
+pub mod free_scopes;
 
 pub use clauses::{expr_clauses, rel_clauses};
+pub use free_scopes::{expr_rests_on_reads, rel_rests_on_free};

@@ -1,3 +1,7 @@
+pub mod EachLaws
 pub mod ExprClauseLaws
 pub mod FreeScopeLaws
 pub mod RelClauseLaws
+pub mod TotalExprLaws
+pub mod TotalGroupLaws
+pub mod TotalRelLaws

@@ -6,6 +6,8 @@
 
 pub mod clauses;
 pub mod free_scopes;
+pub mod totality;
 
 pub use clauses::{expr_clauses, rel_clauses};
 pub use free_scopes::{expr_rests_on_reads, rel_rests_on_free};
+pub use totality::{total_expr_gives_value, total_rel_gives_no_faults};

@@ -1,3 +1,4 @@
 pub mod Clauses
 pub mod Faultless
+pub mod Freshness
 pub mod Independence

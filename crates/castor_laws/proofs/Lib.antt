@@ -1,7 +1,11 @@
+pub mod AggregateLaws
+pub mod DistinctLaws
 pub mod EachLaws
 pub mod ExprClauseLaws
 pub mod FreeScopeLaws
 pub mod FreshnessLaws
+pub mod OperatorLaws
+pub mod PermutationLaws
 pub mod RelClauseLaws
 pub mod TotalExprLaws
 pub mod TotalGroupLaws

@@ -2,3 +2,5 @@ pub mod Clauses
 pub mod Faultless
 pub mod Freshness
 pub mod Independence
+pub mod Operators
+pub mod Permutation

@@ -7,9 +7,11 @@
 pub mod clauses;
 pub mod free_scopes;
 pub mod freshness;
+pub mod operators;
 pub mod totality;
 
 pub use clauses::{expr_clauses, rel_clauses};
 pub use free_scopes::{expr_rests_on_reads, rel_rests_on_free};
 pub use freshness::{free_scope_occurs, fresh_scope_is_fresh};
+pub use operators::{operators_keep, order_changes_order_alone, permuted_is_permutation};
 pub use totality::{total_expr_gives_value, total_rel_gives_no_faults};

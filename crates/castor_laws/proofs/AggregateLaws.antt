@@ -1,5 +1,5 @@
 -- Aggregates of permuted rows.
-use Rattle.std.proofs.Common.{◌≡◌, ◌∙◌, ℕ, ℤ, pos, ◌+ℤ◌, ◌^◌, ◌-◌, min, List, [], ◌∷◌, map, fold, refl, sym, ap, subst, cond, Bool, true, false, Ok, arith}
+use Rattle.std.proofs.Common.{◌≡◌, ◌∙◌, ℕ, ℤ, pos, ◌+ℤ◌, ◌^◌, ◌-◌, min, List, [], ◌∷◌, fold, refl, sym, ap, subst, cond, Bool, true, false, Ok, arith}
 use Rattle.std.proofs.lemmas.Int.{ints}
 use Rattle.std.proofs.lemmas.Cmp.{back_total}
 use Rattle.std.specs.Ordering.{is_lt, is_gt, ordering_reverse}

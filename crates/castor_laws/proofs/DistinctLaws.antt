@@ -1,10 +1,12 @@
 -- Distinct elements of permuted lists.
-use Rattle.std.proofs.Common.{◌≡◌, ◌∙◌, List, [], ◌∷◌, filter, refl, sym, ap, subst, cond, Bool, true, false, ◌&&◌, not}
+use Rattle.std.proofs.Common.{◌≡◌, ◌∙◌, List, [], ◌∷◌, filter, refl, sym, ap, subst, cond, Bool, true, false, ◌&&◌, ◌||◌, not}
+use Rattle.std.specs.List.{list_any}
 use Rattle.castor_val.specs.declared.row.Row.{Row}
 use Rattle.castor_val.specs.Values.{same_row}
 use Rattle.castor_val.proofs.OrderLaws.{equal_from_same_row, same_row-refl}
 use Rattle.castor_alg.specs.Distinct.{distinct}
 use Rattle.castor_laws.specs.Permutation.{Permutes, nil, skip, swap, trans}
+use Rattle.castor_laws.proofs.EachLaws.{Each, none, one}
 use Rattle.castor_laws.proofs.PermutationLaws.{filter_permutes, permutes_refl}
 
 kept_both : {X : Type 0} (p : X → Bool) (x : X) (b : Bool) (xs ys : List X) → xs ≡ filter p ys → cond (b && p x) (x ∷ xs) xs ≡ filter p (cond b (x ∷ ys) ys)
@@ -62,3 +64,13 @@ module _ {X : Type 0} (same : X → X → Bool) (test : IsEqualityTest same) whe
 -- the distinct rows of permuted rows
 pub distinct_rows_permute : {xs ys : List Row} → Permutes xs ys → Permutes (distinct same_row xs) (distinct same_row ys)
 distinct_rows_permute p = distinct_permutes same_row same_row-IsEqualityTest p
+
+-- what holds of each row holds of a row that equals one
+module _ (P : Row → Type 0) (key : Row) where
+  at_key : (row : Row) (t more : Bool) → same_row key row ≡ t → P row → (t || more) ≡ true → (more ≡ true → P key) → P key
+  at_key row true more is here some rest = subst P (sym (equal_from_same_row key row is)) here
+  at_key row false more is here some rest = rest some
+
+  pub each_at_key : {rows : List Row} → Each P rows → list_any (same_row key) rows ≡ true → P key
+  each_at_key none some = clash false some refl
+  each_at_key (one {x} {xs} first rest) some = at_key x (same_row key x) (list_any (same_row key) xs) refl first some (each_at_key rest)

@@ -1,10 +1,9 @@
 -- Values and meanings depend on the scopes that are read alone.
-use Rattle.std.proofs.Common.{◌≡◌, ◌∙◌, ℕ, List, [], ◌∷◌, map, refl, sym, ap, Bool, true, false, not, ◌&&◌, ◌||◌, ◌==◌}
+use Rattle.std.proofs.Common.{◌≡◌, ◌∙◌, ℕ, List, [], ◌∷◌, map, refl, sym, ap, Bool, true, false, not, ◌&&◌, ◌==◌}
 use Rattle.std.specs.List.{list_any}
 use Rattle.std.proofs.lemmas.Bool.{eq-eqb, or_left, or_right}
 use Rattle.castor_val.specs.declared.row.Row.{Row}
 use Rattle.castor_val.specs.declared.table.Table.{Table}
-use Rattle.castor_val.specs.declared.value.Value.{Value}
 use Rattle.castor_val.specs.Values.{value_cmp}
 use Rattle.std.specs.Ordering.{is_lt, is_le, is_gt, is_ge}
 use Rattle.castor_alg.specs.declared.expr.Expr.{Expr}
@@ -12,7 +11,7 @@ use Rattle.castor_alg.specs.declared.rel.Bound.{Bound}
 use Rattle.castor_alg.specs.declared.rel.Bound.TheVariants.{Any, Incl, Excl}
 use Rattle.castor_alg.specs.declared.rel.Rel.{Rel}
 use Rattle.castor_alg.specs.Distinct.{deduped}
-use Rattle.castor_alg.specs.Expression.{expr_value, expr_values, put_front}
+use Rattle.castor_alg.specs.Expression.{expr_values, put_front}
 use Rattle.castor_alg.specs.FreeScopes.{bound_reads, free_step, is_free, passes, reads, reads_step}
 use Rattle.castor_alg.specs.Groups.{grouped}
 use Rattle.castor_alg.specs.Indexes.{compares, hashed, lower, ranged, upper}

@@ -1,5 +1,5 @@
 -- Free scopes occur, and fresh ones don't.
-use Rattle.std.proofs.Common.{◌≡◌, ◌∙◌, ℕ, ◌+◌, ◌<◌, ◌≤◌, ◌==◌, max, fold, List, [], ◌∷◌, ◌++◌, map, refl, sym, ap, subst, Bool, true, false, not, ◌&&◌, ◌||◌, Option, Some, None, if◌then◌else◌, arith}
+use Rattle.std.proofs.Common.{◌≡◌, ◌∙◌, ℕ, ◌+◌, ◌<◌, ◌≤◌, ◌==◌, max, fold, List, [], ◌∷◌, ◌++◌, map, refl, sym, ap, subst, Bool, true, false, not, ◌&&◌, ◌||◌, Some, None, if◌then◌else◌, arith}
 use Rattle.std.specs.List.{list_any, flat_map}
 use Rattle.std.proofs.lemmas.Bool.{ne_eqb, or_from, or_left, or_right}
 use Rattle.std.proofs.lemmas.List.Folds.{list_any-append}
@@ -11,7 +11,7 @@ use Rattle.castor_alg.specs.FreeScopes.{bound_reads, free_step, is_free, reads, 
 use Rattle.castor_alg.specs.FreshScope.{bound_scopes, expr_scopes, expr_scopes_step, fresh_scope, one_above, scope_numbers, scope_numbers_step}
 use Rattle.castor_alg.proofs.ExprInduction.{expr_induction, fold-Col, fold-Scope, fold-Param, fold-Lit, fold-Bin, fold-Not, fold-If}
 use Rattle.castor_alg.proofs.RelInduction.{With, relations, rel_induction, fold-Table, fold-Scalar, fold-Cross, fold-Concat, fold-Select, fold-Filter, fold-Join, fold-DepJoin, fold-Group, fold-Order, fold-Dedup, fold-List, fold-Hash, fold-Ord}
-use Rattle.castor_laws.specs.Freshness.{IsFresh, OccursIfFree}
+use Rattle.castor_laws.specs.Freshness.{IsFresh}
 use Rattle.castor_laws.proofs.EachLaws.{Each, none, one, All_from_each}
 
 -- the number is in the list

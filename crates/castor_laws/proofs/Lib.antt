@@ -4,9 +4,14 @@ pub mod EachLaws
 pub mod ExprClauseLaws
 pub mod FreeScopeLaws
 pub mod FreshnessLaws
+pub mod GroupFitLaws
 pub mod OperatorLaws
 pub mod PermutationLaws
 pub mod RelClauseLaws
+pub mod RowFitLaws
 pub mod TotalExprLaws
 pub mod TotalGroupLaws
 pub mod TotalRelLaws
+pub mod TypeClauseLaws
+pub mod TypePartLaws
+pub mod ValueFitLaws

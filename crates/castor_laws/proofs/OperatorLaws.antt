@@ -1,13 +1,11 @@
 -- Every operator keeps outcomes that are the same up to the order of rows.
-use Rattle.std.proofs.Common.{◌≡◌, ◌∙◌, ℕ, List, [], ◌∷◌, ◌++◌, filter, map, refl, sym, ap, subst, cond, Bool, true, false, ◌||◌, ◌&&◌, Result, Ok, Err}
-use Rattle.std.specs.Prelude.{All}
+use Rattle.std.proofs.Common.{◌≡◌, ◌∙◌, ℕ, List, [], ◌∷◌, ◌++◌, filter, map, refl, sym, ap, subst, cond, Bool, true, false, ◌&&◌, Result, Ok, Err}
 use Rattle.std.specs.List.{list_any, flat_map, AllZip}
 use Rattle.std.specs.Ordering.{is_lt}
 use Rattle.castor_val.specs.declared.fault.Faults.{Faults}
 use Rattle.castor_val.specs.declared.row.Row.{Row}
 use Rattle.castor_val.specs.declared.value.Value.{Value}
 use Rattle.castor_val.specs.Values.{column, same_row, union}
-use Rattle.castor_val.proofs.OrderLaws.{equal_from_same_row}
 use Rattle.castor_alg.specs.declared.out.Out.{Out}
 use Rattle.castor_alg.specs.declared.rel.Agg.{Agg}
 use Rattle.castor_alg.specs.declared.rel.Key.{Key}
@@ -17,10 +15,10 @@ use Rattle.castor_alg.specs.Groups.{behind_key, group_keys, group_row, grouped, 
 use Rattle.castor_alg.specs.Indexes.{found, hashed, ranged, ranged_within, refused}
 use Rattle.castor_alg.specs.Rows.{combined, concatenated, crossed, depjoined, faults_in, filtered, is_true, row_in, selected, union_over}
 use Rattle.castor_alg.specs.Sorting.{by_keys, inserted, row_lt, sorted, sorted_by}
-use Rattle.castor_laws.specs.Operators.{OperatorsKeep, SameUnder}
+use Rattle.castor_laws.specs.Operators.{OperatorsKeep}
 use Rattle.castor_laws.specs.Permutation.{Permutes, nil, skip, swap, trans, SameUpToOrder}
 use Rattle.castor_laws.proofs.AggregateLaws.{aggregates-permutes}
-use Rattle.castor_laws.proofs.DistinctLaws.{distinct_rows_permute}
+use Rattle.castor_laws.proofs.DistinctLaws.{distinct_rows_permute, each_at_key}
 use Rattle.castor_laws.proofs.EachLaws.{Each, none, one, each_all, each_distinct, each_filter, each_from_All, each_weaker}
 use Rattle.castor_laws.proofs.PermutationLaws.{append_permutes, each_permutes, filter_permutes, flat_map_each, flat_map_permutes, list_any-permutes, map_permutes, permutes_append, permutes_refl, permutes_sym, union_over-permutes}
 
@@ -129,25 +127,13 @@ module _ (body other : Row → Out) where
   found_keeps a b key true same under = record { rows = (under refl).rows; faults = λ i. union (same.faults i) ((under refl).faults i) }
   found_keeps a b key false same under = record { rows = nil; faults = same.faults }
 
-  -- the key that is found is a row of the source
-  clash : {P : Type 0} → true ≡ false → P
-  clash is = cc
-
-  under_at : (key row : Row) (t more : Bool) → same_row key row ≡ t → SameUpToOrder (body row) (other row) → (t || more) ≡ true → (more ≡ true → SameUpToOrder (body key) (other key)) → SameUpToOrder (body key) (other key)
-  under_at key row true more is here some rest = subst (λ r. SameUpToOrder (body r) (other r)) (sym (equal_from_same_row key row is)) here
-  under_at key row false more is here some rest = rest some
-
-  under_key : (key : Row) {rows : List Row} → Under rows → list_any (same_row key) rows ≡ true → SameUpToOrder (body key) (other key)
-  under_key key none some = clash (sym some)
-  under_key key (one {x} {xs} first rest) some = under_at key x (same_row key x) (list_any (same_row key) xs) refl first some (under_key key rest)
-
   refused_keeps : (a b : Out) (f : Faults) → SameUpToOrder a b → SameUpToOrder (refused a f) (refused b f)
   refused_keeps a b f same = record { rows = nil; faults = λ i. union (same.faults i) f }
 
   pub hashed_keeps : (a b : Out) (key : Result Row Faults) → SameUpToOrder a b → Under a.rows → SameUpToOrder (hashed body a key) (hashed other b key)
   hashed_keeps a b (Ok key) same under =
       subst (λ t. SameUpToOrder (found body a key (list_any (same_row key) a.rows)) (found other b key t)) (list_any-permutes (same_row key) same.rows)
-      (found_keeps a b key (list_any (same_row key) a.rows) same (under_key key under))
+      (found_keeps a b key (list_any (same_row key) a.rows) same (each_at_key (λ row. SameUpToOrder (body row) (other row)) key under))
   hashed_keeps a b (Err f) same under = refused_keeps a b f same
 
   ranged_within_keeps : (within : Value → Bool) (a b : Out) → SameUpToOrder a b → Under a.rows → SameUpToOrder (ranged_within within body a) (ranged_within within other b)

@@ -1,5 +1,5 @@
 -- Total expressions have values.
-use Rattle.std.proofs.Common.{◌≡◌, ◌∙◌, refl, sym, ap, List, [], ◌∷◌, Bool, true, false, ◌&&◌, ◌||◌, ◌==◌, Result, Ok, Err}
+use Rattle.std.proofs.Common.{◌≡◌, ◌∙◌, refl, sym, List, [], ◌∷◌, Bool, true, false, ◌&&◌, ◌||◌, ◌==◌, Result, Ok}
 use Rattle.std.specs.Prelude.{if◌then◌else◌}
 use Rattle.std.specs.List.{list_all}
 use Rattle.std.specs.declared.cmp.Ordering.{Ordering}
@@ -15,7 +15,7 @@ use Rattle.castor_alg.specs.declared.expr.Op.{Op}
 use Rattle.castor_alg.specs.declared.expr.Op.TheVariants.{Or, And, Eq, Ne, Lt, Le, Gt, Ge, Add, Sub, Mul, Div, Rem}
 use Rattle.castor_alg.specs.declared.rel.Bound.{Bound}
 use Rattle.castor_alg.specs.declared.rel.Bound.TheVariants.{Any, Incl, Excl}
-use Rattle.castor_alg.specs.Expression.{Answer, apply, both_sides, choice, chosen, compared, expr_value, expr_values, ill_typed, negated, negation, on_bools, put_front}
+use Rattle.castor_alg.specs.Expression.{Answer, apply, both_sides, choice, chosen, compared, expr_values, ill_typed, negated, negation, on_bools, put_front}
 use Rattle.castor_alg.specs.Indexes.{compares, lower, upper}
 use Rattle.castor_alg.specs.Scopes.{Scopes}
 use Rattle.castor_alg.specs.Totality.{is_total_bound, is_total_expr, is_total_op, total_expr_step}

@@ -1,17 +1,15 @@
 -- Groupings that can't fault.
-use Rattle.std.proofs.Common.{◌≡◌, ◌∙◌, ℕ, refl, sym, ap, subst, List, [], ◌∷◌, map, filter, cond, Bool, true, false, not, ◌&&◌, ◌||◌, Result, Ok, Err}
+use Rattle.std.proofs.Common.{◌≡◌, ℕ, refl, sym, ap, subst, List, [], ◌∷◌, map, filter, cond, Bool, true, false, not, ◌||◌, Result}
 use Rattle.std.specs.List.{list_all, list_any}
 use Rattle.std.proofs.lemmas.Bool.{and_parts, or_right}
 use Rattle.castor_val.specs.declared.fault.Faults.{Faults}
 use Rattle.castor_val.specs.declared.row.Row.{Row}
-use Rattle.castor_val.specs.declared.value.Value.{Value}
-use Rattle.castor_val.specs.Values.{column, same_row}
+use Rattle.castor_val.specs.Values.{same_row}
 use Rattle.castor_val.proofs.OrderLaws.{same_row-refl}
 use Rattle.castor_alg.specs.declared.rel.Agg.{Agg}
 use Rattle.castor_alg.specs.declared.rel.Agg.TheVariants.{Count, Sum, Min, Max}
 use Rattle.castor_alg.specs.Distinct.{distinct}
-use Rattle.castor_alg.specs.Expression.{Answer, put_front}
-use Rattle.castor_alg.specs.Groups.{aggregate, aggregates, behind_key, best, greater, group_keys, group_row, key_of, lesser}
+use Rattle.castor_alg.specs.Groups.{aggregate, aggregates, behind_key, group_keys, group_row, key_of}
 use Rattle.castor_alg.specs.Totality.{is_count, is_sum, is_total_group}
 use Rattle.castor_laws.specs.Faultless.{HasValue}
 use Rattle.castor_laws.proofs.EachLaws.{Each, none, one, each_weaker, each_map, each_distinct}

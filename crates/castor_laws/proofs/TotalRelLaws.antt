@@ -1,5 +1,5 @@
 -- Total relations have no faults.
-use Rattle.std.proofs.Common.{◌≡◌, ◌∙◌, ℕ, refl, sym, ap, List, [], ◌∷◌, map, filter, Bool, true, false, ◌&&◌, Result, Ok, Err}
+use Rattle.std.proofs.Common.{◌≡◌, ◌∙◌, refl, sym, ap, List, [], ◌∷◌, map, filter, Bool, true, false, ◌&&◌, Result}
 use Rattle.std.specs.List.{list_all, list_any}
 use Rattle.std.proofs.lemmas.Bool.{and_from, and_parts}
 use Rattle.castor_val.specs.declared.fault.Faults.{Faults}
@@ -7,7 +7,6 @@ use Rattle.castor_val.specs.declared.row.Row.{Row}
 use Rattle.castor_val.specs.declared.table.Table.{Table}
 use Rattle.castor_val.specs.declared.value.Value.{Value}
 use Rattle.castor_val.specs.Values.{column, no_faults, same_row, union}
-use Rattle.castor_alg.specs.declared.expr.Expr.{Expr}
 use Rattle.castor_alg.specs.declared.out.Out.{Out}
 use Rattle.castor_alg.specs.declared.rel.Rel.{Rel}
 use Rattle.castor_alg.specs.Distinct.{distinct}
@@ -15,7 +14,7 @@ use Rattle.castor_alg.specs.Expression.{Answer, expr_value, expr_values}
 use Rattle.castor_alg.specs.Groups.{group_keys, group_row}
 use Rattle.castor_alg.specs.Indexes.{found, hashed, lower, ranged, upper}
 use Rattle.castor_alg.specs.Meaning.{meaning}
-use Rattle.castor_alg.specs.Rows.{crossed, depjoined, faults_in, filtered, selected, single, union_over}
+use Rattle.castor_alg.specs.Rows.{crossed, depjoined, faults_in, filtered, selected, union_over}
 use Rattle.castor_alg.specs.Scopes.{Scopes, bind}
 use Rattle.castor_alg.specs.Sorting.{row_lt, sorted}
 use Rattle.castor_alg.specs.Totality.{is_total, is_total_bound, is_total_expr, is_total_group, total_step}

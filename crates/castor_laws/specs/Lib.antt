@@ -1,5 +1,6 @@
 pub mod Clauses
 pub mod Faultless
+pub mod Fitting
 pub mod Freshness
 pub mod Independence
 pub mod Operators

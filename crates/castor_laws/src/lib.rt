@@ -5,12 +5,14 @@
 #![tactic(auto)]
 
 pub mod clauses;
+pub mod fitting;
 pub mod free_scopes;
 pub mod freshness;
 pub mod operators;
 pub mod totality;
 
 pub use clauses::{expr_clauses, rel_clauses};
+pub use fitting::{typed_expr_gives_fitting_value, typed_rel_gives_fitting_rows};
 pub use free_scopes::{expr_rests_on_reads, rel_rests_on_free};
 pub use freshness::{free_scope_occurs, fresh_scope_is_fresh};
 pub use operators::{operators_keep, order_changes_order_alone, permuted_is_permutation};

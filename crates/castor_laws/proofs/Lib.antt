@@ -1,6 +1,7 @@
 pub mod AggregateLaws
 pub mod DistinctLaws
 pub mod EachLaws
+pub mod EquivalenceLaws
 pub mod ExprClauseLaws
 pub mod FreeScopeLaws
 pub mod FreshnessLaws

@@ -90,6 +90,9 @@ combined_fit (out ∷ outs) (types ∷ all) (first, rest) =
     each_flat_map fitting (λ a. map (λ b. a ++ b) others)
     (each_weaker _ _ (λ a fit. each_map fitting (λ b. a ++ b) (each_weaker _ _ (λ b also. row_fits-append a b types more fit also) (combined_fit outs all rest))) first)
 
+operands_combined_fit : (outs : List Out) (all : List (List Ty)) (types : List Ty) → flat_map (λ ts. ts) all ≡ types → AllZip OutFits outs all → AllFit types (combined (map (λ (r : Out). r.rows) outs))
+operands_combined_fit outs all types is fit = subst (λ ts. AllFit ts (combined (map (λ (r : Out). r.rows) outs))) is (combined_fit outs all fit)
+
 appended_fit : (types : List Ty) (outs : List Out) (all : List (List Ty)) → list_all (λ ts. same_types types ts) all ≡ true → AllZip OutFits outs all → AllFit types (flat_map (λ (r : Out). r.rows) outs)
 appended_fit types [] [] same fit = none
 appended_fit types [] (ts ∷ all) same fit = absurd fit
@@ -147,8 +150,7 @@ rows_fit_types = rel_induction EachRowFits record {
       let operands = map (λ (r : Rel). types_under r context) (relations rs) in
       let part = map_parts (λ all. flat_map (λ ts. ts) all) (each operands) types (limited_parts _ types (sym (types_under-Cross context (relations rs)) ∙ typed)) in
       fits_by _ _ types (meaning-Cross ts env p (relations rs))
-      (subst (λ us. AllFit us (combined (map (λ (r : Out). r.rows) (map (λ (r : Rel). meaning r ts env p) (relations rs))))) part.2
-      (combined_fit (map (λ (r : Rel). meaning r ts env p) (relations rs)) part.0 (operands_fit rs context part.0 part.1 ts env p fits)));
+      (operands_combined_fit (map (λ (r : Rel). meaning r ts env p) (relations rs)) part.0 types part.2 (operands_fit rs context part.0 part.1 ts env p fits));
   concat = λ rs context types typed ts env p fits.
       let operands = map (λ (r : Rel). types_under r context) (relations rs) in
       let part = and_then_parts common_types (each operands) types (sym (types_under-Concat context (relations rs)) ∙ typed) in
@@ -177,8 +179,7 @@ rows_fit_types = rel_induction EachRowFits record {
       let fit = operands_fit ((r, x) ∷ (s, y) ∷ []) context both.0 both.1 ts env p fits in
       fits_by _ _ types (meaning-Join ts env p e r s)
       (each_filter (λ row. row_fits row types ≡ true) (λ row. is_true (expr_value e row env p))
-      (subst (λ us. AllFit us (combined ((meaning r ts env p).rows ∷ (meaning s ts env p).rows ∷ []))) both.2
-      (combined_fit (meaning r ts env p ∷ meaning s ts env p ∷ []) both.0 fit)));
+      (operands_combined_fit (meaning r ts env p ∷ meaning s ts env p ∷ []) both.0 types both.2 fit));
   depjoin = λ k r s x y context types typed ts env p fits.
       let part = and_then_parts (λ columns. types_under s (extended context k columns)) (types_under r context) types (sym (types_under-DepJoin context k r s) ∙ typed) in
       fits_by _ _ types (meaning-DepJoin ts env p k r s) (bodies_fit s y context k part.0 types part.2 ts env p fits (x context part.0 part.1 ts env p fits));

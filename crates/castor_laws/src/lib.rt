@@ -5,6 +5,7 @@
 #![tactic(auto)]
 
 pub mod clauses;
+pub mod equivalence;
 pub mod fitting;
 pub mod free_scopes;
 pub mod freshness;
@@ -12,6 +13,7 @@ pub mod operators;
 pub mod totality;
 
 pub use clauses::{expr_clauses, rel_clauses};
+pub use equivalence::{equivalence_is_congruence, equivalence_laws};
 pub use fitting::{typed_expr_gives_fitting_value, typed_rel_gives_fitting_rows};
 pub use free_scopes::{expr_rests_on_reads, rel_rests_on_free};
 pub use freshness::{free_scope_occurs, fresh_scope_is_fresh};

@@ -1,4 +1,5 @@
 pub mod AggregateLaws
+pub mod ColumnCountLaws
 pub mod DistinctLaws
 pub mod EachLaws
 pub mod EquivalenceLaws
@@ -8,6 +9,7 @@ pub mod FreshnessLaws
 pub mod GroupFitLaws
 pub mod OperatorLaws
 pub mod PermutationLaws
+pub mod PlaceLaws
 pub mod RelClauseLaws
 pub mod RowFitLaws
 pub mod TotalExprLaws

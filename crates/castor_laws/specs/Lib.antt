@@ -6,3 +6,4 @@ pub mod Freshness
 pub mod Independence
 pub mod Operators
 pub mod Permutation
+pub mod Places

@@ -5,5 +5,6 @@ pub mod Fitting
 pub mod Freshness
 pub mod Independence
 pub mod Operators
+pub mod Partition
 pub mod Permutation
 pub mod Places

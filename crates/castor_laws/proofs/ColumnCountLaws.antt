@@ -38,10 +38,10 @@ extended-is_context context k types within columns =
     (list_all-append (λ (entry : ℕ × List Ty). are_columns entry.1) context.scopes ((k, types) ∷ [])
     ∙ and_from (list_all (λ entry. are_columns entry.1) context.scopes) (are_columns types && true) parts.1 last)
 
-abbrev HasColumns : Rel → Type 0
-HasColumns q = (context : Context) (types : List Ty) → is_context context ≡ true → types_under q context ≡ Some types → are_columns types ≡ true
+abbrev HasColumnsUnder : Rel → Type 0
+HasColumnsUnder q = (context : Context) (types : List Ty) → is_context context ≡ true → types_under q context ≡ Some types → are_columns types ≡ true
 
-first_has_columns : (rs : List (With HasColumns)) (context : Context) (all : List (List Ty)) (types : List Ty) → is_context context ≡ true → each (map (λ (r : Rel). types_under r context) (relations rs)) ≡ Some all → slice_get all 0 ≡ Some types → are_columns types ≡ true
+first_has_columns : (rs : List (With HasColumnsUnder)) (context : Context) (all : List (List Ty)) (types : List Ty) → is_context context ≡ true → each (map (λ (r : Rel). types_under r context) (relations rs)) ≡ Some all → slice_get all 0 ≡ Some types → are_columns types ≡ true
 first_has_columns [] context [] types within typed is = cc
 first_has_columns [] context (ts ∷ all) types within typed is = cc
 first_has_columns (r ∷ rs) context all types within typed is =
@@ -49,8 +49,8 @@ first_has_columns (r ∷ rs) context all types within typed is =
     let first : Some parts.0 ≡ Some types = ap (λ (list : List (List Ty)). slice_get list 0) parts.4 ∙ is in
     r.1 context types within (parts.2 ∙ first)
 
-pub has_columns : (q : Rel) → HasColumns q
-has_columns = rel_induction HasColumns record {
+pub has_columns : (q : Rel) → HasColumnsUnder q
+has_columns = rel_induction HasColumnsUnder record {
   table = λ n context types within typed. at_number context.tables n types (and_parts (list_all are_columns context.tables) (list_all (λ entry. are_columns entry.1) context.scopes) within).0 (sym (types_under-Table context n) ∙ typed);
   scalar = λ e context types within typed.
       let part = map_parts (λ t. t ∷ []) (type_under e [] context) types (sym (types_under-Scalar context e) ∙ typed) in

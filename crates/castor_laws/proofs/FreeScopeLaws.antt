@@ -1,7 +1,7 @@
 -- Values and meanings depend on the scopes that are read alone.
-use Rattle.std.proofs.Common.{◌≡◌, ◌∙◌, ℕ, List, [], ◌∷◌, map, refl, sym, ap, Bool, true, false, not, ◌&&◌, ◌==◌}
+use Rattle.std.proofs.Common.{◌≡◌, ◌∙◌, ℕ, List, [], ◌∷◌, map, cond, refl, sym, ap, Bool, true, false, not, ◌&&◌, ◌==◌}
 use Rattle.std.specs.List.{list_any}
-use Rattle.std.proofs.lemmas.Bool.{eq-eqb, or_left, or_right}
+use Rattle.std.proofs.lemmas.Bool.{eq-eqb, eqb-true, or_left, or_right}
 use Rattle.castor_val.specs.declared.row.Row.{Row}
 use Rattle.castor_val.specs.declared.table.Table.{Table}
 use Rattle.castor_val.specs.Values.{value_cmp}
@@ -21,7 +21,7 @@ use Rattle.castor_alg.specs.Scopes.{Scopes, bind}
 use Rattle.castor_alg.specs.Sorting.{sorted_by}
 use Rattle.castor_alg.proofs.ExprInduction.{expr_induction, fold-Scope, fold-Bin, fold-Not, fold-If}
 use Rattle.castor_alg.proofs.RelInduction.{With, relations, rel_induction, fold-Scalar, fold-Cross, fold-Concat, fold-Select, fold-Filter, fold-Join, fold-DepJoin, fold-Group, fold-Order, fold-Dedup, fold-List, fold-Hash, fold-Ord}
-use Rattle.castor_laws.specs.Independence.{RestsOnFree, RestsOnReads}
+use Rattle.castor_laws.specs.Independence.{MeaningIgnores, RestsOnFree, RestsOnReads, ValueIgnores}
 use Rattle.castor_laws.proofs.ExprClauseLaws.{expr_value-Col, expr_value-Scope, expr_value-Param, expr_value-Lit, expr_value-Bin, expr_value-Not, expr_value-If}
 use Rattle.castor_laws.proofs.RelClauseLaws.{meaning-Table, meaning-Scalar, meaning-Cross, meaning-Concat, meaning-Select, meaning-Filter, meaning-Join, meaning-DepJoin, meaning-Group, meaning-Order, meaning-Dedup, meaning-List, meaning-Hash, meaning-Ord}
 
@@ -137,3 +137,17 @@ rel_rests = rel_induction RestsOnFree record {
       let to = upper_rests hi env other p (λ j is. agree j (fold-Ord Bool (free_step j) k r s lo hi ∙ or_left _ _ (or_right _ _ is))) in
       meaning-Ord ts env p k r s lo hi ∙ (λ i. ranged (λ a. body a i) (source i) (from i) (to i)) ∙ sym (meaning-Ord ts other p k r s lo hi);
 }
+
+-- another scope than the one that is bound
+clash : {P : Type 0} (b : Bool) → b ≡ true → b ≡ false → P
+clash b is isnt = cc
+
+other_scope : (k j : ℕ) (bound : Row) (env : Scopes) (reads_it : ℕ → Bool) → reads_it k ≡ false → reads_it j ≡ true → (b : Bool) → (k == j) ≡ b → cond b bound (env j) ≡ env j
+other_scope k j bound env reads_it unread read true is = clash (reads_it k) (ap reads_it (eqb-true k j is) ∙ read) unread
+other_scope k j bound env reads_it unread read false is = refl
+
+pub value_ignores : (e : Expr) (k : ℕ) → ValueIgnores e k
+value_ignores e k unread row env bound p = expr_rests e row (bind env k bound) env p (λ j read. other_scope k j bound env (λ m. reads m e) unread read (k == j) refl)
+
+pub meaning_ignores : (q : Rel) (k : ℕ) → MeaningIgnores q k
+meaning_ignores q k unfree ts env bound p = rel_rests q ts (bind env k bound) env p (λ j free. other_scope k j bound env (λ m. is_free m q) unfree free (k == j) refl)

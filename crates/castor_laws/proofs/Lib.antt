@@ -7,9 +7,11 @@ pub mod ExprClauseLaws
 pub mod FilterLaws
 pub mod FreeScopeLaws
 pub mod FreshnessLaws
+pub mod GroupFilterLaws
 pub mod GroupFitLaws
 pub mod GroupPartLaws
 pub mod LookUpLaws
+pub mod LoopLaws
 pub mod OperatorLaws
 pub mod OutcomeLaws
 pub mod PartLaws

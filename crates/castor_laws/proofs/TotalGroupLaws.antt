@@ -38,14 +38,14 @@ unsummed (Min at) is row rows = (_, refl)
 unsummed (Max at) is row rows = (_, refl)
 
 -- all but sums have values over a row or more
-but_sums : (aggs : List Agg) → list_all (λ a. not (is_sum a)) aggs ≡ true → (row : Row) (rows : List Row) → HasValue (aggregates aggs (row ∷ rows))
+pub but_sums : (aggs : List Agg) → list_all (λ a. not (is_sum a)) aggs ≡ true → (row : Row) (rows : List Row) → HasValue (aggregates aggs (row ∷ rows))
 but_sums [] total row rows = ([], refl)
 but_sums (a ∷ aggs) total row rows =
     let parts = and_parts (not (is_sum a)) (list_all (λ a. not (is_sum a)) aggs) total in
     put_front_value _ _ (unsummed a parts.0 row rows) (but_sums aggs parts.1 row rows)
 
 -- a list that has an element that passes is filtered to a row or more
-passing : {X : Type 0} (p : X → Bool) (xs : List X) → list_any p xs ≡ true → (x : X) × (rest : List X) × (filter p xs ≡ x ∷ rest)
+pub passing : {X : Type 0} (p : X → Bool) (xs : List X) → list_any p xs ≡ true → (x : X) × (rest : List X) × (filter p xs ≡ x ∷ rest)
 passing p [] some = clash (sym some)
 passing p (x ∷ xs) some = passing_at p x xs (p x) some (passing p xs)
   where
@@ -55,7 +55,7 @@ passing p (x ∷ xs) some = passing_at p x xs (p x) some (passing p xs)
 
 module _ (ks : List ℕ) where
   -- the rows have the key
-  abbrev Occurs : List Row → Row → Type 0
+  abbrev pub Occurs : List Row → Row → Type 0
   Occurs rows key = list_any (λ row. same_row (key_of ks row) key) rows ≡ true
 
   own_keys : (rows : List Row) → Each (λ row. Occurs rows (key_of ks row)) rows
@@ -64,7 +64,7 @@ module _ (ks : List ℕ) where
       (each_weaker _ _ (λ other is. or_right _ _ is) (own_keys rows))
 
   -- each key of the groups has a row
-  keys_occur : (rows : List Row) → Each (Occurs rows) (distinct same_row (map (key_of ks) rows))
+  pub keys_occur : (rows : List Row) → Each (Occurs rows) (distinct same_row (map (key_of ks) rows))
   keys_occur rows = each_distinct (Occurs rows) same_row (each_map (Occurs rows) (key_of ks) (own_keys rows))
 
 behind : (key : Row) (r : Result Row Faults) → HasValue r → HasValue (behind_key key r)

@@ -12,7 +12,7 @@ use Rattle.castor_alg.specs.Expression.{Answer, expr_value}
 use Rattle.castor_alg.specs.Fits.{Fits, ScopesFit}
 use Rattle.castor_alg.specs.Meaning.{meaning}
 use Rattle.castor_alg.specs.Scopes.{Scopes}
-use Rattle.castor_alg.specs.Typing.{type_under, types_under}
+use Rattle.castor_alg.specs.Typing.{are_columns, column_types, type_under, types_under}
 
 -- the answer is a value of the type, or a fault
 abbrev pub answer_fits : Answer → Ty → Bool
@@ -31,3 +31,7 @@ ValueFits e = (columns : List Ty) (context : Context) (t : Ty) → type_under e 
 -- where the relation has column types, over tables, an environment and parameters that fit its rows are of these types
 abbrev pub RowsFit : Rel → Type 0
 RowsFit q = (context : Context) (types : List Ty) → types_under q context ≡ Some types → (tables : List Table) (env : Scopes) (params : Row) → Fits context tables env params → table_fits (meaning q tables env params).rows types ≡ true
+
+-- where the relation is well typed, it has 1 to 64 columns
+abbrev pub HasColumns : Rel → Context → Type 0
+HasColumns q context = (types : List Ty) → column_types q context ≡ Some types → are_columns types ≡ true

@@ -4,6 +4,7 @@ pub mod Faultless
 pub mod Fitting
 pub mod Freshness
 pub mod Independence
+pub mod Loops
 pub mod Operators
 pub mod Partition
 pub mod Permutation

@@ -1,5 +1,6 @@
 -- Filters, groups and the distinct rows of a list that is parted by keys.
-use Rattle.std.specs.Prelude.{◌≡◌, ℕ, List, ◌∷◌, [], ◌++◌, Bool, ◌&&◌, Ok}
+use Rattle.std.specs.Prelude.{◌≡◌, ℕ, List, ◌∷◌, [], ◌++◌, Bool, true, not, ◌&&◌, Ok}
+use Rattle.std.specs.List.{list_all}
 use Rattle.castor_val.specs.declared.row.Row.{Row}
 use Rattle.castor_val.specs.declared.value.Value.{Value}
 use Rattle.castor_val.specs.declared.value.Value.TheVariants.{Bool as Truth}
@@ -12,6 +13,7 @@ use Rattle.castor_alg.specs.Expression.{Answer, apply, both_sides}
 use Rattle.castor_alg.specs.Groups.{grouped, key_of}
 use Rattle.castor_alg.specs.Indexes.{hashed, ranged}
 use Rattle.castor_alg.specs.Rows.{depjoined, filtered, selected}
+use Rattle.castor_alg.specs.Totality.{is_sum}
 use Rattle.castor_laws.specs.Faultless.{HasValue}
 use Rattle.castor_laws.specs.Permutation.{SameUpToOrder}
 
@@ -39,6 +41,14 @@ abbrev pub GroupsAreParts : Type 0
 GroupsAreParts = (k : ℕ) (ks : List ℕ) (aggs : List Agg) (r : Out) (test : Row → Row → Answer)
     → ((of : Row) → Decides (test (key_of (k ∷ ks) of)) (λ row. same_row (key_of (k ∷ ks) row) (key_of (k ∷ ks) of)))
     → grouped (k ∷ ks) aggs r ≡ depjoined (λ key. selected (λ row. Ok (key ++ row)) (grouped [] aggs (filtered (test key) r))) (deduped (selected (λ row. Ok (key_of (k ∷ ks) row)) r))
+
+-- a filter by the keys of groups, none of whose aggregates is a sum, may come before the grouping
+abbrev pub FilterUnderGroups : Type 0
+FilterUnderGroups = (k : ℕ) (ks : List ℕ) (aggs : List Agg) (r : Out) (over under : Row → Answer) (holds : Row → Bool)
+    → list_all (λ a. not (is_sum a)) aggs ≡ true
+    → ((of values : Row) → over (key_of (k ∷ ks) of ++ values) ≡ Ok (Truth (holds (key_of (k ∷ ks) of))))
+    → Decides under (λ row. holds (key_of (k ∷ ks) row))
+    → filtered over (grouped (k ∷ ks) aggs r) ≡ grouped (k ∷ ks) aggs (filtered under r)
 
 -- the rows whose value is within two bounds are found, up to order, in an ordered index over the values of all rows, whose body has under each value the rows with it
 abbrev pub FilterIsRange : Type 0

@@ -5,7 +5,7 @@ use Rattle.castor_alg.specs.declared.rel.Rel.{Rel, out-Rel}
 use Rattle.castor_alg.specs.declared.rel.Rel as R
 use Rattle.castor_alg.specs.declared.rel.Rel.TheOpen.{Rel-F}
 use Rattle.castor_alg.specs.declared.rel.Rel.TheOpen as is
-use Rattle.castor_alg.specs.Typing.{extended, types_under}
+use Rattle.castor_alg.specs.Typing.{Typed, extended, types_under}
 use Rattle.castor_laws.specs.Equivalence.{Equivalent}
 
 -- a relation, and the context under which it stands
@@ -91,3 +91,7 @@ rewritten (i ∷ path) f q = on_operand i (rewritten path f) (out-Rel q)
 -- the rewriting gives an equivalent relation in that place, if there is one
 abbrev pub KeepsAt : (Rel → Rel) → Option Placed → Type 0
 KeepsAt f found = (r : Rel) (inner : Context) → found ≡ Some (r, inner) → Equivalent inner r (f r)
+
+-- where the relation is well typed, rewriting at the path gives an equivalent one if it does so in that place
+abbrev pub RewritingKeeps : List ℕ → (Rel → Rel) → Rel → Context → Type 0
+RewritingKeeps path f q context = Typed q context → KeepsAt f (place path q context) → Equivalent context q (rewritten path f q)

@@ -33,7 +33,7 @@ map_cond : (f : Row → Row) (x : Row) (xs : List Row) (b : Bool) → map f (con
 map_cond f x xs true = refl
 map_cond f x xs false = refl
 
-map-filter : (f : Row → Row) (p : Row → Bool) (rows : List Row) → map f (filter (λ a. p (f a)) rows) ≡ filter p (map f rows)
+pub map-filter : (f : Row → Row) (p : Row → Bool) (rows : List Row) → map f (filter (λ a. p (f a)) rows) ≡ filter p (map f rows)
 map-filter f p [] = refl
 map-filter f p (x ∷ rows) = map_cond f x (filter (λ a. p (f a)) rows) (p (f x)) ∙ ap (λ zs. cond (p (f x)) (f x ∷ zs) zs) (map-filter f p rows)
 

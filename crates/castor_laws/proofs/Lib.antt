@@ -3,6 +3,7 @@ pub mod ColumnCountLaws
 pub mod DistinctLaws
 pub mod EachLaws
 pub mod EquivalenceLaws
+pub mod ExchangeLaws
 pub mod ExprClauseLaws
 pub mod FilterLaws
 pub mod FreeScopeLaws
@@ -12,6 +13,7 @@ pub mod GroupFitLaws
 pub mod GroupPartLaws
 pub mod LookUpLaws
 pub mod LoopLaws
+pub mod MoveLaws
 pub mod OperatorLaws
 pub mod OutcomeLaws
 pub mod PartLaws

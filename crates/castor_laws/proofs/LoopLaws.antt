@@ -28,7 +28,7 @@ pub loops_exchange : {X Y Z : Type 0} (f : X → Y → List Z) (xs : List X) (ys
 loops_exchange f [] ys = subst (λ zs. Permutes [] zs) (sym (empty_each ys)) nil
 loops_exchange f (x ∷ xs) ys = trans (append_permutes (flat_map (f x) ys) (loops_exchange f xs ys)) (permutes_sym (parts_apart (f x) (λ y. flat_map (λ x. f x y) xs) ys))
 
-flat_map-append : {X Y : Type 0} (f : X → List Y) (xs ys : List X) → flat_map f (xs ++ ys) ≡ flat_map f xs ++ flat_map f ys
+pub flat_map-append : {X Y : Type 0} (f : X → List Y) (xs ys : List X) → flat_map f (xs ++ ys) ≡ flat_map f xs ++ flat_map f ys
 flat_map-append f [] ys = refl
 flat_map-append f (x ∷ xs) ys = ap (λ zs. f x ++ zs) (flat_map-append f xs ys) ∙ sym (append_assoc (f x) (flat_map f xs) (flat_map f ys))
 
@@ -53,11 +53,12 @@ any_along p f q (x ∷ xs) =
     ∙ middle_exchanged (p x) (list_any p xs) (list_any q (f x)) (list_any q (flat_map f xs))
     ∙ ap (λ b. (p x || list_any q (f x)) || b) (any_along p f q xs)
 
-faults_along : (body : Row → Out) (g : Row → Faults) (rows : List Row) → union (union_over (λ a. (body a).faults) rows) (union_over g (flat_map (λ a. (body a).rows) rows)) ≡ union_over (λ a. union (body a).faults (union_over g (body a).rows)) rows
-faults_along body g rows = λ i. record {
-  division = any_along (λ a. (body a).faults.division) (λ a. (body a).rows) (λ b. (g b).division) rows i;
-  overflow = any_along (λ a. (body a).faults.overflow) (λ a. (body a).rows) (λ b. (g b).overflow) rows i;
-  norows = any_along (λ a. (body a).faults.norows) (λ a. (body a).rows) (λ b. (g b).norows) rows i;
+-- the faults of all bodies, and those on all their rows
+pub faults_along : {X : Type 0} (body : X → Out) (g : Row → Faults) (xs : List X) → union (union_over (λ a. (body a).faults) xs) (union_over g (flat_map (λ a. (body a).rows) xs)) ≡ union_over (λ a. union (body a).faults (union_over g (body a).rows)) xs
+faults_along body g xs = λ i. record {
+  division = any_along (λ a. (body a).faults.division) (λ a. (body a).rows) (λ b. (g b).division) xs i;
+  overflow = any_along (λ a. (body a).faults.overflow) (λ a. (body a).rows) (λ b. (g b).overflow) xs i;
+  norows = any_along (λ a. (body a).faults.norows) (λ a. (body a).rows) (λ b. (g b).norows) xs i;
 }
 
 pub dependent_joins_regroup : (inner outer : Row → Out) (r : Out) → depjoined outer (depjoined inner r) ≡ depjoined (λ row. depjoined outer (inner row)) r

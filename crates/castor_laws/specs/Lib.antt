@@ -9,3 +9,4 @@ pub mod Operators
 pub mod Partition
 pub mod Permutation
 pub mod Places
+pub mod Rearrangements

@@ -13,6 +13,7 @@ pub mod loops;
 pub mod operators;
 pub mod partition;
 pub mod places;
+pub mod rearrangements;
 pub mod totality;
 
 pub use clauses::{expr_clauses, rel_clauses};
@@ -31,4 +32,8 @@ pub use partition::{
     groups_are_parts,
 };
 pub use places::rewriting_keeps_equivalence;
+pub use rearrangements::{
+    after_projection, distinct_twice, filter_moves_into, filters_exchange, select_moves_into,
+    sorts_under_filter, splits_by_test,
+};
 pub use totality::{total_expr_gives_value, total_rel_gives_no_faults};

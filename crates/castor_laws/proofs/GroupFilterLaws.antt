@@ -42,7 +42,7 @@ flat_map_cond g x xs true = refl
 flat_map_cond g x xs false = refl
 
 -- a filter over what each element leads to, where the element decides
-filter-flat_map : (p q : Row → Bool) (g : Row → List Row) {xs : List Row} → Each (λ x. filter p (g x) ≡ cond (q x) (g x) []) xs → filter p (flat_map g xs) ≡ flat_map g (filter q xs)
+pub filter-flat_map : (p q : Row → Bool) (g : Row → List Row) {xs : List Row} → Each (λ x. filter p (g x) ≡ cond (q x) (g x) []) xs → filter p (flat_map g xs) ≡ flat_map g (filter q xs)
 filter-flat_map p q g none = refl
 filter-flat_map p q g (one {x} {xs} first rest) = filter-append p (g x) (flat_map g xs) ∙ (λ i. first i ++ filter-flat_map p q g rest i) ∙ sym (flat_map_cond g x (filter q xs) (q x))
 

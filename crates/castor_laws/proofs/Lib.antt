@@ -1,5 +1,6 @@
 pub mod AggregateLaws
 pub mod ColumnCountLaws
+pub mod CrossLaws
 pub mod DistinctLaws
 pub mod EachLaws
 pub mod EquivalenceLaws

@@ -6,7 +6,7 @@ use Rattle.std.proofs.lemmas.List.Folds.{flat_map-map}
 use Rattle.castor_val.specs.declared.fault.Faults.{Faults}
 use Rattle.castor_val.specs.declared.row.Row.{Row}
 use Rattle.castor_val.specs.declared.value.Value.{Value}
-use Rattle.castor_val.specs.Values.{column, no_faults, same_row, union}
+use Rattle.castor_val.specs.Values.{column, same_row, union}
 use Rattle.castor_val.proofs.FaultLaws.{union-no_faults, union_assoc}
 use Rattle.castor_alg.specs.declared.out.Out.{Out}
 use Rattle.castor_alg.specs.Distinct.{distinct}
@@ -42,8 +42,8 @@ module _ (over : List Row → List Row) (over_none : over [] ≡ []) (over_both 
   into_concat : (rs : List Out) → operator (concatenated rs) ≡ concatenated (map operator rs)
   into_concat rs =
       outcome_by (operator (concatenated rs)) (concatenated (map operator rs))
-          (over-flat_map (λ (r : Out). r.rows) rs ∙ sym (flat_map-map (λ (r : Out). r.rows) operator rs))
-          (faults_along (λ (r : Out). r) g rs ∙ sym (union_over-map (λ (r : Out). r.faults) operator rs))
+      (over-flat_map (λ (r : Out). r.rows) rs ∙ sym (flat_map-map (λ (r : Out). r.rows) operator rs))
+      (faults_along (λ (r : Out). r) g rs ∙ sym (union_over-map (λ (r : Out). r.faults) operator rs))
 
   module _ (body : Row → Out) (r : Out) where
     abbrev moved : Row → Out
@@ -63,7 +63,7 @@ module _ (over : List Row → List Row) (over_none : over [] ≡ []) (over_both 
   into_depjoin : (body : Row → Out) (r : Out) → operator (depjoined body r) ≡ depjoined (λ row. operator (body row)) r
   into_depjoin body r =
       outcome_by (operator (depjoined body r)) (depjoined (λ row. operator (body row)) r) (over-flat_map (λ row. (body row).rows) r.rows)
-          (union_assoc r.faults (union_over (λ row. (body row).faults) r.rows) (union_over g (flat_map (λ row. (body row).rows) r.rows)) ∙ ap (union r.faults) (faults_along body g r.rows))
+      (union_assoc r.faults (union_over (λ row. (body row).faults) r.rows) (union_over g (flat_map (λ row. (body row).rows) r.rows)) ∙ ap (union r.faults) (faults_along body g r.rows))
 
   into_ordered : (body : Row → Out) (r : Out) (from to : Result (Value → Bool) Faults) → operator (ranged body r from to) ≡ ranged (λ row. operator (body row)) r from to
   into_ordered body r (Ok f) (Ok h) = into_depjoin body (record { rows = sorted row_lt (filter (λ a. f (column a 0) && h (column a 0)) (distinct same_row r.rows)); faults = r.faults })
@@ -89,7 +89,7 @@ module _ (g : Row → Row) (r : Out) where
   filter_after f =
       ap (filtered f) (selected_values g r)
       ∙ outcome_by (filtered f projected) (record { rows = map g (filter (λ row. is_true (f (g row))) r.rows); faults = union r.faults (union_over (λ row. faults_in (f (g row))) r.rows) })
-          (sym (map-filter g (λ row. is_true (f row)) r.rows)) (ap (union r.faults) (union_over-map (λ row. faults_in (f row)) g r.rows))
+      (sym (map-filter g (λ row. is_true (f row)) r.rows)) (ap (union r.faults) (union_over-map (λ row. faults_in (f row)) g r.rows))
       ∙ sym (selected_values g (filtered (λ row. f (g row)) r))
 
   select_after : (f : Row → Result Row Faults) → selected f (selected (λ row. Ok (g row)) r) ≡ selected (λ row. f (g row)) r

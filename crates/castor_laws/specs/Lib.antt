@@ -1,4 +1,5 @@
 pub mod Clauses
+pub mod Crosses
 pub mod Equivalence
 pub mod Faultless
 pub mod Fitting

@@ -5,6 +5,7 @@
 #![tactic(auto)]
 
 pub mod clauses;
+pub mod crosses;
 pub mod equivalence;
 pub mod fitting;
 pub mod free_scopes;
@@ -17,6 +18,7 @@ pub mod rearrangements;
 pub mod totality;
 
 pub use clauses::{expr_clauses, rel_clauses};
+pub use crosses::{cross_exchanges, cross_is_dependent, filter_on_left, filter_on_right};
 pub use equivalence::{equivalence_is_congruence, equivalence_laws};
 pub use fitting::{
     typed_expr_gives_fitting_value, typed_rel_gives_fitting_rows, typed_rel_has_columns,

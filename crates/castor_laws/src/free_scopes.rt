@@ -3,7 +3,8 @@
 ghost use Rattle.std.specs.Prelude.{ℕ};
 ghost use Rattle.castor_alg.specs.declared.expr.Expr.{Expr};
 ghost use Rattle.castor_alg.specs.declared.rel.Rel.{Rel};
-ghost use Rattle.castor_laws.specs.Independence.{MeaningIgnores, RestsOnFree, RestsOnReads, ValueIgnores};
+ghost use Rattle.castor_laws.specs.Independence.{MeaningIgnores, RestsOnFree};
+ghost use Rattle.castor_laws.specs.Independence.{RestsOnReads, ValueIgnores};
 
 /// The value of an expression depends on the environment at the scopes that it reads alone.
 pub fn expr_rests_on_reads()

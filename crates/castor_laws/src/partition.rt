@@ -13,14 +13,14 @@ pub fn filter_of_distinct()
     ensures { FilterOfDistinct }
 {}
 
-/// A filter by equal keys is a look-up in a hash index, with the same rows in the same order and the
-/// same faults.
+/// A filter by equal keys is a look-up in a hash index, with the same rows in the same order and
+/// the same faults.
 pub fn filter_is_look_up()
     ensures { FilterIsLookUp }
 {}
 
-/// Grouping by keys is a dependent join over the distinct keys, with the same rows in the same order
-/// and the same faults.
+/// Grouping by keys is a dependent join over the distinct keys, with the same rows in the same
+/// order and the same faults.
 pub fn groups_are_parts()
     ensures { GroupsAreParts }
 {}

@@ -1,5 +1,6 @@
 //! Operators that change places, or that are one where there were two.
 
+ghost use Rattle.std.specs.Prelude.{Result};
 ghost use Rattle.castor_val.specs.declared.fault.Faults.{Faults};
 ghost use Rattle.castor_val.specs.declared.row.Row.{Row};
 ghost use Rattle.castor_alg.specs.declared.out.Out.{Out};
@@ -7,7 +8,6 @@ ghost use Rattle.castor_alg.specs.Expression.{Answer};
 ghost use Rattle.castor_alg.specs.Rows.{filtered, selected};
 ghost use Rattle.castor_laws.specs.Rearrangements.{AfterProjection, DistinctTwice, FiltersExchange};
 ghost use Rattle.castor_laws.specs.Rearrangements.{MovesInto, SortsUnderFilter, SplitsByTest};
-ghost use Rattle.std.specs.Prelude.{Result};
 
 /// Two filters change places, where neither condition faults.
 pub fn filters_exchange()
@@ -19,7 +19,8 @@ pub fn splits_by_test()
     ensures { SplitsByTest }
 {}
 
-/// A filter, a projection or a dependent join after a projection that never faults may go before it.
+/// A filter, a projection or a dependent join after a projection that never faults may go before
+/// it.
 pub fn after_projection()
     ensures { (g : Row → Row) (r : Out) → AfterProjection g r }
 {}

@@ -1,12 +1,17 @@
+pub mod Answers
 pub mod Distinct
 pub mod Expression
+pub mod Fits
 pub mod FreeScopes
 pub mod FreshScope
 pub mod Groups
 pub mod Indexes
 pub mod Meaning
+pub mod Operators
 pub mod Rows
 pub mod Scopes
 pub mod Sizes
 pub mod Sorting
 pub mod Totality
+pub mod TypeEnvs
+pub mod Typing

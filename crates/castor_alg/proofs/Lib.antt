@@ -1,0 +1,6 @@
+pub mod ExprInduction
+pub mod FreshLaws
+pub mod OperandLaws
+pub mod RelInduction
+pub mod TypingAnswers
+pub mod TypingLaws

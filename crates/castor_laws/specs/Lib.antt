@@ -1,0 +1,13 @@
+pub mod Clauses
+pub mod Crosses
+pub mod Equivalence
+pub mod Faultless
+pub mod Fitting
+pub mod Freshness
+pub mod Independence
+pub mod Loops
+pub mod Operators
+pub mod Partition
+pub mod Permutation
+pub mod Places
+pub mod Rearrangements

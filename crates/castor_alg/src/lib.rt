@@ -6,6 +6,7 @@
 #![tactic(auto)]
 
 pub mod context;
+pub mod copies;
 pub mod env;
 pub mod evaluation;
 pub mod expr;
@@ -22,6 +23,7 @@ pub mod type_env;
 pub mod typing;
 
 pub use context::Context;
+pub use copies::{copy, copy_all, copy_bound, copy_expr, copy_exprs};
 pub use env::{Env, OwnedEnv};
 pub use evaluation::value;
 pub use expr::{Expr, Op};

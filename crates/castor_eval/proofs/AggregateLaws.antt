@@ -1,5 +1,5 @@
 -- Aggregates that are found one after another.
-use Rattle.std.proofs.Common.{◌≡◌, ◌∙◌, ℕ, zero, suc, ℤ, pos, ◌+ℤ◌, ◌<◌, ◌+◌, List, [], ◌∷◌, ◌++◌, length, map, filter, take, get_or, Bor, refl, sym, ap, Result, Ok, Err, append_assoc, append-nil, arith}
+use Rattle.std.proofs.Common.{◌≡◌, ◌∙◌, ℕ, zero, suc, pos, ◌+ℤ◌, ◌<◌, ◌+◌, List, [], ◌∷◌, ◌++◌, length, map, filter, take, get_or, Bor, refl, sym, ap, Result, Ok, Err, append_assoc, append-nil, arith}
 use Rattle.std.specs.List.{flat_map}
 use Rattle.std.proofs.lemmas.List.{map-append, take_more}
 use Rattle.std.proofs.lemmas.List.Sums.{fold-append}

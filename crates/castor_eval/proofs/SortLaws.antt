@@ -1,5 +1,5 @@
 -- A stable sort by an order has one result, so std's sort gives the sorted list of the definition.
-use Rattle.std.proofs.Common.{◌≡◌, ◌∙◌, ℕ, zero, suc, ◌<◌, ◌≤◌, ◌+◌, List, [], ◌∷◌, length, get_or, filter, map, Bor, refl, sym, ap, subst, cond, Bool, true, false, ◌&&◌, not, arith}
+use Rattle.std.proofs.Common.{◌≡◌, ◌∙◌, ℕ, suc, ◌<◌, ◌+◌, List, [], ◌∷◌, length, get_or, filter, map, Bor, refl, sym, ap, subst, cond, Bool, true, false, ◌&&◌, not, arith}
 use Rattle.std.specs.Cmp.{IsStrictWeakOrder, IsTotalOrder}
 use Rattle.std.specs.declared.cmp.Ordering.TheVariants.{Equal}
 use Rattle.std.specs.Ordering.{is_lt}

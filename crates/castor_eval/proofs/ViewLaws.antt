@@ -1,5 +1,5 @@
 -- Sets of keys that stand for rows.
-use Rattle.std.proofs.Common.{◌≡◌, ◌∙◌, ◌+◌, List, [], ◌∷◌, ◌++◌, map, refl, sym, ap, cond, Bool, true, false, ◌||◌, not}
+use Rattle.std.proofs.Common.{◌≡◌, ◌∙◌, ◌+◌, List, [], ◌∷◌, ◌++◌, map, refl, ap, cond, Bool, true, false, ◌||◌, not}
 use Rattle.std.specs.List.{list_any, position_or_len}
 use Rattle.std.specs.declared.vec.Vec.{Vec}
 use Rattle.std.proofs.lemmas.List.{map-append}

@@ -16,6 +16,8 @@ mod order;
 mod part;
 mod product;
 mod project;
+#[cfg(test)]
+mod tests;
 
 pub use castor_alg::Out;
 pub use evaluation::eval;

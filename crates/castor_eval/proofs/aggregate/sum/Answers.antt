@@ -1,4 +1,4 @@
-use Rattle.std.proofs.Common.{◌≡◌, ◌∙◌, ◌+ℤ◌, SFits, w64, rules, arith, sym, ap}
+use Rattle.std.proofs.Common.{◌∙◌, ◌+ℤ◌, SFits, w64, rules, arith, sym, ap}
 use Rattle.std.specs.Int.{w128}
 use Rattle.std.proofs.lemmas.Int.{ints, to_z-of_z}
 use Rattle.castor_alg.specs.Groups as groups

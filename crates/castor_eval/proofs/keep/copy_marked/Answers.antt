@@ -1,4 +1,4 @@
-use Rattle.std.proofs.Common.{◌≡◌, ◌∙◌, ◌++◌, ◌∷◌, [], sym, ap, true, false, append-nil}
+use Rattle.std.proofs.Common.{◌∙◌, ◌++◌, ◌∷◌, [], sym, ap, true, false, append-nil}
 use Rattle.castor_eval.proofs.MarkLaws.{marked-none, marked-more}
 use Rattle.castor_eval.proofs.keep.copy_marked.Goals as goal
 use Rattle.castor_eval.proofs.keep.copy_marked.Goals.{then-is_marked+in_ok-copy+in_ok-push, else-is_marked}

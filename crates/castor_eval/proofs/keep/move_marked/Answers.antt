@@ -1,4 +1,4 @@
-use Rattle.std.proofs.Common.{◌≡◌, ◌∙◌, sym, true, false}
+use Rattle.std.proofs.Common.{◌∙◌, sym, true, false}
 use Rattle.std.proofs.lemmas.List.{nil_from_length}
 use Rattle.castor_eval.proofs.MarkLaws.{marked-next, marked-over}
 use Rattle.castor_eval.proofs.keep.move_marked.Goals as goal

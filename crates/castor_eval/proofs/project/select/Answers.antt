@@ -1,6 +1,4 @@
 use Rattle.std.proofs.Common.{◌∙◌, ap, map}
-use Rattle.castor_val.specs.declared.fault.Faults.{Faults}
-use Rattle.castor_val.specs.declared.row.Row.{Row}
 use Rattle.castor_val.specs.Values.{value_of}
 use Rattle.castor_alg.specs.Expression.{expr_values}
 use Rattle.castor_alg.specs.Rows.{selected}

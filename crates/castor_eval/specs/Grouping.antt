@@ -17,9 +17,11 @@ use Rattle.castor_eval.specs.Keys.{key_values}
 abbrev pub rows_behind : {A : Type 0} → Vec (Bor Row) A → List Row
 rows_behind rows = map (λ row. row.now) rows.items
 
+-- the keys of the groups
 abbrev pub keys_in : Groups → List Row
 keys_in groups = map key_values groups.keys.keys
 
+-- beside each key the rows that have it
 abbrev pub members_in : Groups → List (List Row)
 members_in groups = map rows_behind groups.members.items
 

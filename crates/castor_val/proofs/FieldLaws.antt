@@ -1,12 +1,11 @@
 -- The laws of fields: what decides whether a field is read, and that a printed value is read back.
-use Rattle.std.proofs.Common.{◌≡◌, ◌∙◌, ℕ, ◌^◌, ◌<◌, ◌≤◌, ℤ, pos, negsuc, List, [], ◌∷◌, drop, Bool, true, false, cond, ◌&&◌, length, Result, Ok, Err, None, refl, sym, ap, subst, inl, inr, w64, arith, rules}
-use Rattle.std.specs.Prelude.{if◌then◌else◌, nat_le, nat_lt, ◌==◌, FitsSigned, MatchResult}
+use Rattle.std.proofs.Common.{◌≡◌, ℕ, ◌^◌, ◌<◌, ◌≤◌, ℤ, pos, negsuc, List, [], ◌∷◌, drop, Bool, true, false, cond, ◌&&◌, length, Result, Ok, Err, None, refl, sym, subst, w64, arith, rules}
+use Rattle.std.specs.Prelude.{nat_le, nat_lt, ◌==◌, FitsSigned}
 use Rattle.std.specs.Fmt.{signed_decimal}
 use Rattle.std.specs.Result.{result_ok}
 use Rattle.std.specs.Str.{IsAscii, IsUtf8, is_utf8, all_ascii_digits, bytes_eq}
 use Rattle.std.specs.Str.Parse.{IsNumeral, ParsesSigned, true_text, false_text, digits_value, signed_digits_value, without_leading_sign}
-use Rattle.std.specs.Int.Signed.{mag}
-use Rattle.std.proofs.lemmas.Bool.{and_from, and_parts, cases_Bool, eqb-true, false_from_ne_true, le-leb, leb-true, lt-leb, lt-ltb, ltb-true}
+use Rattle.std.proofs.lemmas.Bool.{and_from, and_parts, eqb-true, false_from_ne_true, le-leb, lt-leb, lt-ltb, ltb-true}
 use Rattle.std.proofs.lemmas.Fmt.{IsAscii-from_digits, parse-signed_decimal}
 use Rattle.std.proofs.lemmas.Int.{to_z-of_z}
 use Rattle.std.proofs.lemmas.Slice.Eq.{bytes_eq-Decides}
@@ -19,7 +18,7 @@ use Rattle.castor_val.specs.declared.value.Ty.TheVariants as ty
 use Rattle.castor_val.specs.declared.value.Value.TheVariants.{Int, Bool as Truth, Text}
 use Rattle.castor_val.specs.declared.field.FieldError.{FieldError}
 use Rattle.castor_val.specs.declared.field.FieldError.TheVariants.{NotOfType, TooLong}
-use Rattle.castor_val.specs.Values.{has_type, is_int, is_within_limits, value_fits}
+use Rattle.castor_val.specs.Values.{is_int, value_fits}
 use Rattle.castor_val.specs.Fields.{bool_field, field_value, int_field, is_numeral, text_field, value_text}
 use mir.Val.{to_z, of_z}
 

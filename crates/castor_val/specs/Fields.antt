@@ -1,5 +1,5 @@
 -- The value that a field of text is read as, and the text that a value is printed as.
-use Rattle.std.specs.Prelude.{◌≡◌, ℕ, ◌^◌, List, true, false, ◌&&◌, Bool, Result, Ok, Err, if◌then◌else◌, nat_le, nat_lt, length}
+use Rattle.std.specs.Prelude.{◌≡◌, ℕ, List, true, false, ◌&&◌, Bool, Result, Ok, Err, if◌then◌else◌, nat_le, nat_lt, length}
 use Rattle.std.specs.Fmt.{signed_decimal}
 use Rattle.std.specs.Str.{all_ascii_digits, bytes_eq, is_utf8}
 use Rattle.std.specs.Str.Parse.{true_text, false_text, without_leading_sign, signed_digits_value}

@@ -10,7 +10,9 @@ use std::alloc::Global;
 /// A column of a table, a column of an answer, or a parameter.
 #[derive(Debug, Drop)]
 pub struct Column {
+    /// The name by which queries and headers call it.
     pub name: Text,
+    /// The type of its values.
     pub ty: Ty,
 }
 

@@ -6,7 +6,7 @@ ghost use Rattle.castor_val.specs.Values.{has_fault, no_faults, union};
 /// Why an expression or an aggregate has no value.
 #[derive(Clone, Copy, Debug, PartialEq, Eq)]
 pub enum Fault {
-    /// A division by zero, or the rest of one.
+    /// A division or a remainder by zero.
     Division,
     /// A whole number that is no int.
     Overflow,
@@ -17,8 +17,11 @@ pub enum Fault {
 /// A set of faults: for each kind, whether the set has it.
 #[derive(Clone, Copy, Debug, PartialEq, Eq)]
 pub struct Faults {
+    /// Whether it has `Fault::Division`.
     pub division: bool,
+    /// Whether it has `Fault::Overflow`.
     pub overflow: bool,
+    /// Whether it has `Fault::NoRows`.
     pub norows: bool,
 }
 

@@ -22,6 +22,12 @@ impl TextBuffer {
     }
 }
 
+impl Default for TextBuffer {
+    fn default() -> TextBuffer {
+        TextBuffer::new()
+    }
+}
+
 impl<'a> Cell<'a> {
     /// The value as the text of a field: an int in decimal, `true` or `false`, or the text itself.
     /// It borrows the buffer, so copy it before the next call. Takes no memory.

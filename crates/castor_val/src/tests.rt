@@ -3,6 +3,7 @@
 use crate::column::Column;
 use crate::fault::{Fault, Faults};
 use crate::field::FieldError;
+use crate::memory::Memory;
 use crate::order::{compare, compare_rows, is_same, is_same_row};
 use crate::print::TextBuffer;
 use crate::row::Row;
@@ -131,7 +132,7 @@ fn prints_each_kind_of_value(rt: HostRuntime) {
     }
 }
 
-fn sample_row(alloc: Global) -> Result<Row, Fail> {
+fn sample_row(alloc: Global) -> Result<Row, Memory> {
     let mut row = Row::new(alloc);
     row.push(Value::Int(-5))?;
     row.push(Value::Bool(true))?;
@@ -140,44 +141,60 @@ fn sample_row(alloc: Global) -> Result<Row, Fail> {
 }
 
 #[test]
-fn copies_what_tables_hold(rt: HostRuntime) -> Result<(), Fail> {
+fn copies_rows_and_tables(rt: HostRuntime) -> Result<(), Fail> {
     let due = [Cell::Int(-5), Cell::Bool(true), Cell::Text("é")];
+    let row = sample_row(rt.alloc())?;
+    let mut twice = Row::from_cells(rt.alloc(), due.as_slice())?;
+    twice.append(row.copy(rt.alloc())?)?;
+    assert_eq!(rt; twice.len(), 6);
     let mut table = Table::new(rt.alloc());
-    assert!(rt; table.is_empty());
-    table.push(sample_row(rt.alloc())?)?;
+    table.push(twice)?;
+    table.append(table_of(rt.alloc(), row)?)?;
     let copy = table.copy(rt.alloc())?;
-    table.append(copy)?;
-    assert_eq!(rt; table.len(), 2);
-    for row in table.as_slice() {
-        assert_eq!(rt; row.cells(rt.alloc())?.as_slice(), due.as_slice());
-    }
-    for row in table.into_rows() {
-        let mut again = Row::from_cells(rt.alloc(), row.cells(rt.alloc())?.as_slice())?;
-        assert!(rt; !again.is_empty());
-        again.append(row.copy(rt.alloc())?)?;
-        assert_eq!(rt; again.len(), 6);
-        for value in again.into_vec() {
-            assert!(rt; due.contains(&value.copy(rt.alloc())?.cell()));
+    assert_eq!(rt; copy.len(), 2);
+    for row in copy.as_slice() {
+        let cells = row.cells(rt.alloc())?;
+        for cell in cells.as_slice() {
+            assert!(rt; due.contains(cell), "{cell:?}");
         }
     }
+    Ok(())
+}
+
+fn table_of(alloc: Global, row: Row) -> Result<Table, Memory> {
+    let mut table = Table::new(alloc);
+    table.push(row)?;
+    Ok(table)
+}
+
+#[test]
+fn copies_columns(rt: HostRuntime) -> Result<(), Fail> {
     let name = Text::new(String::from_str(rt.alloc(), "city")?);
-    let column = Column { name, ty: Ty::Text }.copy(rt.alloc())?;
-    assert_eq!(rt; column.name.as_str(), "city");
-    assert_eq!(rt; column.ty, Value::Text(column.name).ty());
+    let ty = Ty::Text;
+    let Column { name, ty } = Column { name, ty }.copy(rt.alloc())?;
+    assert_eq!(rt; name.as_str(), "city");
+    assert_eq!(rt; ty, Value::Text(name).ty());
     Ok(())
 }
 
 #[test]
-fn keys_maps_by_cells_and_rows(rt: HostRuntime) -> Result<(), Fail> {
-    let mut places = HashMap::new(rt.alloc());
-    let mut sorted = Vec::new(rt.alloc());
-    for (place, cell) in ascending().iter().enumerate() {
-        places.insert(*cell, place)?;
-        sorted.push(*cell)?;
+fn keys_maps_by_cells(rt: HostRuntime) -> Result<(), Fail> {
+    let (first, second) = "éb,éb".split_once(',').ok_or("a comma")?;
+    let cells = [Cell::Text(first), Cell::Int(1), Cell::Text(second)];
+    let mut counts = HashMap::new(rt.alloc());
+    for cell in cells {
+        let count = counts.entry(cell)?.or_insert(0u32);
+        *count = count.saturating_add(1);
     }
-    let text = String::from_str(rt.alloc(), "éb")?;
-    assert_eq!(rt; places.get(&Cell::Text(&text)).copied(), Some(10));
-    assert_eq!(rt; places.get(&Cell::Int(1)).copied(), None);
+    assert_eq!(rt; counts.len(), 2);
+    assert_eq!(rt; counts.get(&cells[0]).copied(), Some(2));
+    assert_eq!(rt; counts.get(&cells[1]).copied(), Some(1));
+    Ok(())
+}
+
+#[test]
+fn sorts_cells_and_keys_maps_by_rows(rt: HostRuntime) -> Result<(), Fail> {
+    let mut sorted = Vec::from_slice(rt.alloc(), ascending().as_slice())?;
     sorted.reverse();
     sorted.sort()?;
     assert_eq!(rt; sorted.as_slice(), ascending().as_slice());

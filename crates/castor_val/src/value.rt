@@ -10,16 +10,22 @@ use std::alloc::Global;
 /// The type of a column or a parameter.
 #[derive(Clone, Copy, Debug, PartialEq, Eq)]
 pub enum Ty {
+    /// Whole numbers from -2^63 to 2^63 - 1.
     Int,
+    /// `false` and `true`.
     Bool,
+    /// Texts of UTF-8 with at most 65,535 bytes.
     Text,
 }
 
 /// A value that owns its text.
 #[derive(Debug, Drop)]
 pub enum Value {
+    /// An int.
     Int(i64),
+    /// A bool.
     Bool(bool),
+    /// A text, of at most 65,535 bytes where it was read from a field.
     Text(Text),
 }
 
@@ -29,8 +35,11 @@ pub enum Value {
 /// number, `false` before `true`, and texts by bytes. Equality and hashing agree with the order.
 #[derive(Clone, Copy, Debug, PartialEq, Eq, PartialOrd, Ord, Hash)]
 pub enum Cell<'a> {
+    /// An int.
     Int(i64),
+    /// A bool.
     Bool(bool),
+    /// A text, of at most 65,535 bytes where it was read from a field.
     Text(&'a str),
 }
 

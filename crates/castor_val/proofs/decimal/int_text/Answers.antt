@@ -1,4 +1,4 @@
-use Rattle.std.proofs.Common.{◌≡◌, ◌∙◌, ◌-◌, drop, take, ap, arith, length-drop, take_all, w64}
+use Rattle.std.proofs.Common.{◌∙◌, ◌-◌, drop, take, ap, arith, length-drop, take_all, w64}
 use Rattle.std.specs.Fmt.{signed_decimal}
 use Rattle.std.proofs.lemmas.Int.{to_z-of_z}
 use Rattle.castor_val.proofs.DecimalLaws.{IsUtf8-signed_decimal, ok_from_utf8}

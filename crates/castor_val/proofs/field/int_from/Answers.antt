@@ -1,5 +1,5 @@
 use Rattle.std.specs.Result.{result_ok}
-use Rattle.std.proofs.Common.{◌≡◌, ap, sym}
+use Rattle.std.proofs.Common.{ap, sym}
 use Rattle.castor_val.proofs.FieldLaws.{int_field-read, int_field-not_read}
 use Rattle.castor_val.proofs.field.int_from.Goals as goal
 

@@ -1,5 +1,5 @@
 use Rattle.std.specs.Result.{result_ok}
-use Rattle.std.proofs.Common.{◌≡◌, ap, sym}
+use Rattle.std.proofs.Common.{ap, sym}
 use Rattle.castor_val.proofs.FieldLaws.{text_field-short}
 use Rattle.castor_val.proofs.field.text_from.Goals as goal
 

@@ -1,4 +1,4 @@
-use Rattle.std.proofs.Common.{◌≡◌, ◌∙◌}
+use Rattle.std.proofs.Common.{◌∙◌}
 use Rattle.castor_val.proofs.CellLaws.{cell_cmp}
 use Rattle.castor_val.proofs.OrderLaws.{value_order}
 use Rattle.castor_val.proofs.order.compare.Goals as goal

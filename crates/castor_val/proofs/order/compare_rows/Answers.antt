@@ -1,4 +1,4 @@
-use Rattle.std.proofs.Common.{◌≡◌, ◌∙◌}
+use Rattle.std.proofs.Common.{◌∙◌}
 use Rattle.castor_val.proofs.CellLaws.{cells_cmp}
 use Rattle.castor_val.proofs.OrderLaws.{row_order}
 use Rattle.castor_val.proofs.order.compare_rows.Goals as goal

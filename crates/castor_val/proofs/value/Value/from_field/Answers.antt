@@ -1,4 +1,4 @@
-use Rattle.std.proofs.Common.{◌≡◌, inr, sym}
+use Rattle.std.proofs.Common.{inr, sym}
 use Rattle.castor_val.proofs.FieldLaws.{text_field-refused}
 use Rattle.castor_val.proofs.value.Value.from_field.Goals as goal
 

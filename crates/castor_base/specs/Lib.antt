@@ -1,0 +1,9 @@
+pub mod Causes
+pub mod Failing
+pub mod FileMap
+pub mod Files
+pub mod Moves
+pub mod Real
+pub mod Shelves
+pub mod Sinks
+pub mod Sources

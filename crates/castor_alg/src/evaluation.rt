@@ -9,7 +9,7 @@ ghost use Rattle.castor_alg.specs.Scopes.{scopes_of};
 
 use crate::env::Env;
 use crate::expr::{Expr, Op};
-use castor_val::{compare, Cell, Faults};
+use castor_val::{Cell, Faults, compare};
 use std::cmp::Ordering;
 
 /// What a missing column, scope or parameter and an ill-typed operation give.

@@ -7,7 +7,7 @@ use Rattle.castor_val.specs.declared.value.Value.{Value}
 use Rattle.castor_val.specs.declared.value.Value.TheVariants.{Int, Bool as Truth, Text}
 use Rattle.castor_val.specs.declared.fault.Faults.{Faults}
 use Rattle.castor_val.specs.declared.row.Row.{Row}
-use Rattle.castor_val.specs.Values.{column, class, value_cmp, union, division_fault, overflow_fault}
+use Rattle.castor_val.specs.Values.{column, class, is_int, value_cmp, union, division_fault, overflow_fault}
 use Rattle.castor_alg.specs.declared.expr.Op.{Op}
 use Rattle.castor_alg.specs.declared.expr.Op.TheVariants.{Or, And, Eq, Ne, Lt, Le, Gt, Ge, Add, Sub, Mul, Div, Rem}
 use Rattle.castor_alg.specs.declared.expr.Expr.{Expr, fold-Expr}
@@ -21,11 +21,6 @@ Answer = Result Value Faults
 -- what an operation on values of other types than its own gives
 abbrev pub ill_typed : Answer
 ill_typed = Ok (Truth false)
-
--- the number lies from -2^63 to 2^63 - 1
-abbrev pub is_int : ℤ → Bool
-is_int (pos n) = nat_lt n (2 ^ 63)
-is_int (negsuc n) = nat_lt n (2 ^ 63)
 
 -- a whole number where it is an int, else an overflow
 abbrev pub whole : ℤ → Answer

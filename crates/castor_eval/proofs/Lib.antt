@@ -1,0 +1,13 @@
+pub mod AggregateLaws
+pub mod AnswerLaws
+pub mod ArmLaws
+pub mod DistinctLaws
+pub mod FirstLaws
+pub mod GroupLaws
+pub mod GroupedRows
+pub mod LoopLaws
+pub mod MarkLaws
+pub mod MeaningLaws
+pub mod ProductLaws
+pub mod SortLaws
+pub mod ViewLaws

@@ -1,0 +1,7 @@
+use Rattle.std.proofs.Common.{◌≡◌, fold, map, take}
+use Rattle.castor_val.specs.Values.{column, value_of}
+use Rattle.castor_alg.specs.Groups as groups
+use Rattle.castor_eval.proofs.aggregate.greatest.Given as goal
+
+abbrev pub invariant-loop-row : goal.invariant-loop-row
+invariant-loop-row l = value_of l.greatest ≡ fold groups.greater (value_of l.initial.greatest) (map (λ row. column row l.at) (map (λ row. row.now) (take l.row-index l.rest)))

@@ -1,0 +1,23 @@
+//! The plain evaluator of relations: exactly the rows and the faults that a relation means.
+//!
+//! The meaning enumerates rows nested. The evaluator groups and finds distinct rows by hashing, sorts
+//! with a stable merge sort, and borrows the rows of a table until one of them has to be kept.
+#![tactic(auto)]
+
+mod aggregate;
+mod cells;
+mod distinct;
+mod evaluation;
+mod filter;
+mod group;
+mod index;
+mod keep;
+mod order;
+mod part;
+mod product;
+mod project;
+#[cfg(test)]
+mod tests;
+
+pub use castor_alg::Out;
+pub use evaluation::eval;

@@ -21,8 +21,8 @@ awk -v rows=$rows 'BEGIN {
     print "id,cust,total"
     for (i = 0; i < rows; i++) printf "%d,customer %d,%d\n", i, i * 7919 % 10007, i * 37 % 1000
 }' >orders.csv
-# The table is declared, and so it is loaded, but nothing is asked of it.
-echo 'table orders (id int, cust text, total int); query scalar(1 as one)' >orders.query
+# With no question lines the table is loaded and nothing is asked of it.
+echo 'table orders (id int, cust text, total int); param c text; query filter(cust = $c, orders)' >orders.query
 echo 'finish;' >finish.script
 cat >peer.py <<'END'
 import csv

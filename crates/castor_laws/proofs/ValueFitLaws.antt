@@ -11,13 +11,12 @@ use Rattle.castor_val.specs.declared.value.Ty.{Ty}
 use Rattle.castor_val.specs.declared.value.Ty.TheVariants as ty
 use Rattle.castor_val.specs.declared.value.Value.{Value}
 use Rattle.castor_val.specs.declared.value.Value.TheVariants.{Int, Bool as Truth, Text}
-use Rattle.castor_val.specs.Values as vals
-use Rattle.castor_val.specs.Values.{class, column, has_type, is_within_limits, row_fits, type_of_value, value_cmp, value_fits}
+use Rattle.castor_val.specs.Values.{class, column, has_type, is_int, is_within_limits, row_fits, type_of_value, value_cmp, value_fits}
 use Rattle.castor_alg.specs.declared.context.Context.{Context}
 use Rattle.castor_alg.specs.declared.expr.Expr.{Expr}
 use Rattle.castor_alg.specs.declared.expr.Op.{Op}
 use Rattle.castor_alg.specs.declared.expr.Op.TheVariants.{Or, And, Eq, Ne, Lt, Le, Gt, Ge, Add, Sub, Mul, Div, Rem}
-use Rattle.castor_alg.specs.Expression.{Answer, apply, both_sides, choice, chosen, compared, expr_value, expr_values, ill_typed, is_int, is_zero, negated, negation, on_bools, on_ints, put_front, quotient, remainder, whole}
+use Rattle.castor_alg.specs.Expression.{Answer, apply, both_sides, choice, chosen, compared, expr_value, expr_values, ill_typed, is_zero, negated, negation, on_bools, on_ints, put_front, quotient, remainder, whole}
 use Rattle.castor_alg.specs.Fits.{ScopesFit}
 use Rattle.castor_alg.specs.Rows.{row_in}
 use Rattle.castor_alg.specs.Scopes.{Scopes}
@@ -38,12 +37,8 @@ column_fits (v ∷ row) (u ∷ types) zero t fits is =
     subst (λ s. value_fits v s ≡ true) same (and_parts (value_fits v u) (row_fits row types) fits).0
 column_fits (v ∷ row) (u ∷ types) (suc i) t fits is = column_fits row types i t (and_parts (value_fits v u) (row_fits row types) fits).1 is
 
-is_int-same : (z : ℤ) → is_int z ≡ vals.is_int z
-is_int-same (pos n) = refl
-is_int-same (negsuc n) = refl
-
 int_fits : (z : ℤ) → is_int z ≡ true → value_fits (Int z) ty.Int ≡ true
-int_fits z is = sym (is_int-same z) ∙ is
+int_fits z is = is
 
 whole_at : (z : ℤ) (b : Bool) → is_int z ≡ b → (f : Faults) → answer_fits (if b then Ok (Int z) else Err f) ty.Int ≡ true
 whole_at z true is f = int_fits z is

@@ -1,0 +1,7 @@
+mod Columns
+mod Cuts
+mod Ends
+mod Output
+mod Preparing
+mod Reading
+mod Tables

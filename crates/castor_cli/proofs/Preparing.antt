@@ -1,0 +1,177 @@
+-- What ends the preparation of a query, a script and tables.
+use Rattle.std.proofs.Common.{◌≡◌, ◌⊎◌, ◌∙◌, ℕ, zero, suc, ◌+◌, List, [], ◌∷◌, Bool, true, false, Option, Some, None, Result, Ok, Err, IfSome, refl, sym, ap, subst, inl, inr, zero-add, arith, length, ◌≤◌, ◌++◌}
+use Rattle.std.specs.List.{slice_get}
+use Rattle.castor_base.specs.Files.{Files, SameFiles}
+use Rattle.castor_val.specs.declared.table.Table.{Table}
+use Rattle.castor_cli.specs.declared.checked.Checked.{Checked}
+use Rattle.castor_cli.specs.declared.checked.Declared.{Declared}
+use Rattle.castor_cli.specs.declared.preparation.Prepared.{Prepared}
+use Rattle.castor_cli.specs.declared.status.Place.TheVariants as place
+use Rattle.castor_cli.specs.declared.status.ReadFault.TheVariants as fault
+use Rattle.castor_cli.specs.declared.status.Status.{Status}
+use Rattle.castor_cli.specs.declared.status.Status.TheVariants as status
+use Rattle.castor_cli.specs.Causes.{IsDue, IsDueAmong, IsDueLater, IsOfPart, IsRefusal, NamesOneOf, NamesTable, PartRefused, PreparationRefused, RestRefused, RoseWhere, SpeaksOf, TablesRefused, file_of_status, nth_name}
+use Rattle.castor_cli.specs.Preparation.{Broken, after, declared_by, declared_in, prepared, query_in, script_in, tables_in, with_query}
+use Rattle.castor_cli.specs.Status.{table_file}
+use Rattle.castor_cli.proofs.Tables.{both_told, if_told, if_told_later, rose_where_up}
+
+-- a refusal that is due with a device failing or not
+abbrev DueIn : {A : Type 0} → Status → Status → (Bool → Result A Status) → Type 0
+DueIn failed s due = (s ≡ status.Memory) ⊎ ((fails : Bool) × (fails ≡ true → s ≡ failed) × (due fails ≡ Err s))
+
+-- ---- the script
+
+script_due : (files : Files) (script : List ℕ) (c : Checked) (s : Status) → DueIn (status.Read place.Script fault.Failed) s (λ fails. script_in fails files script) → IsDueLater (λ broken. with_query broken files script c) s
+script_due files script c s (inl memory) = inl memory
+script_due files script c s (inr (true, blames, is)) = inr (Some place.Script, refl, blames refl, rw is refl)
+script_due files script c s (inr (false, blames, is)) = inr (None, refl, tt, rw is refl)
+
+script_speaks : (told_after : Option Files) (rose : List ℕ → Type 0) (query script : List ℕ) (ds : List Declared) (s : Status) → IsOfPart place.Script s → RoseWhere told_after (rose script) s → SpeaksOf told_after rose query script ds s
+script_speaks told_after rose query script ds (status.Read place.Script why) of_part count = ([], tt, count)
+script_speaks told_after rose query script ds status.NotYet of_part count = ([], tt, tt)
+script_speaks told_after rose query script ds status.Memory of_part count = ([], tt, tt)
+script_speaks told_after rose query script ds s of_part count = absurd of_part
+
+script_refusal : (s : Status) → IsOfPart place.Script s → IsRefusal s
+script_refusal (status.Read place.Script why) of_part = tt
+script_refusal status.NotYet of_part = tt
+script_refusal status.Memory of_part = tt
+script_refusal s of_part = absurd of_part
+
+query_refusal : (s : Status) → IsOfPart place.Query s → IsRefusal s
+query_refusal (status.Read place.Query why) of_part = tt
+query_refusal status.NotYet of_part = tt
+query_refusal status.Memory of_part = tt
+query_refusal s of_part = absurd of_part
+
+table_refusal : (ds : List Declared) (s : Status) (name : List ℕ) → NamesOneOf 0 ds s name → IsRefusal s
+table_refusal ds (status.Read (place.Table i) why) name names = tt
+table_refusal ds (status.Table i why) name names = tt
+table_refusal ds status.Memory name names = tt
+table_refusal ds s name names = absurd names
+
+-- the script was refused
+pub rest_at_script : (told told_after : Option Files) (rose : List ℕ → Type 0) (query script : List ℕ) (c : Checked) (s : Status)
+    → PartRefused told told_after (rose script) place.Script (λ fails files. script_in fails files script) s → RestRefused told told_after rose query script c s
+rest_at_script told told_after rose query script c s r = record {
+  refusal = script_refusal s r.of_part;
+  due = if_told told _ _ (λ files. script_due files script c s) r.due;
+  speaks = script_speaks told_after rose query script c.tables s r.of_part r.count;
+}
+
+-- ---- the tables
+
+tables_due : (files : Files) (script : List ℕ) (c : Checked) (s : Status) → script_in false files script ≡ Ok tt → IsDueAmong 0 (λ failing. tables_in failing files 0 c.tables) s → IsDueLater (λ broken. with_query broken files script c) s
+tables_due files script c s well (inl memory) = inl memory
+tables_due files script c s well (inr (None, blames, is)) = inr (None, refl, tt, rw (well, is) refl)
+tables_due files script c s well (inr (Some k, blames, is)) =
+    inr (Some (place.Table k), refl, subst (λ (i : ℕ). s ≡ status.Read (place.Table i) fault.Failed) (zero-add k) blames, rw (well, is) refl)
+
+tables_speak : (told_after : Option Files) (rose rises : List ℕ → Type 0) (query script : List ℕ) (ds : List Declared) (s : Status) (name : List ℕ)
+    → ((name : List ℕ) → rose name → rises name) → NamesOneOf 0 ds s name → RoseWhere told_after (rose (table_file name)) s → SpeaksOf told_after rises query script ds s
+tables_speak told_after rose rises query script ds (status.Read (place.Table i) why) name up names count = (name, names, rose_where_up told_after _ _ (status.Read (place.Table i) why) (up (table_file name)) count)
+tables_speak told_after rose rises query script ds (status.Table i why) name up names count = (name, names, tt)
+tables_speak told_after rose rises query script ds status.Memory name up names count = ([], tt, tt)
+tables_speak told_after rose rises query script ds s name up names count = absurd names
+
+-- a table was refused
+pub rest_at_tables : (told later told_after : Option Files) (rose rises : List ℕ → Type 0) (query script : List ℕ) (c : Checked) (s : Status)
+    → IfSome told (λ (files : Files). script_in false files script ≡ Ok tt) → SameFiles told later → ((name : List ℕ) → rose name → rises name)
+    → TablesRefused later told_after rose 0 c.tables s → RestRefused told told_after rises query script c s
+rest_at_tables told later told_after rose rises query script c s well same up r = record {
+  refusal = let (name, names, count) = r.table in table_refusal c.tables s name names;
+  due = both_told told _ _ _ (λ files w h. tables_due files script c s w h) well (if_told_later told later _ same r.due);
+  speaks = let (name, names, count) = r.table in tables_speak told_after rose rises query script c.tables s name up names count;
+}
+
+rest_in : (files : Files) (script : List ℕ) (c : Checked) (ts all : List Table) → script_in false files script ≡ Ok tt
+    → (loaded : List Table) × (all ≡ [] ++ loaded) × (tables_in None files 0 c.tables ≡ Ok loaded) → with_query None files script c ≡ Ok (record { checked = c; tables = all })
+rest_in files script c ts all well (loaded, grew, is) = rw (well, is, grew) refl
+
+-- the script and the tables are well
+pub rest_well : (told later : Option Files) (script : List ℕ) (c : Checked) (all : List Table)
+    → IfSome told (λ (files : Files). script_in false files script ≡ Ok tt) → SameFiles told later
+    → IfSome later (λ (files : Files). (loaded : List Table) × (all ≡ [] ++ loaded) × (tables_in None files 0 c.tables ≡ Ok loaded))
+    → IfSome told (λ (files : Files). with_query None files script c ≡ Ok (record { checked = c; tables = all }))
+rest_well told later script c all well same rest = both_told told _ _ _ (λ files w h. rest_in files script c all all w h) well (if_told_later told later _ same rest)
+
+-- ---- the query
+
+query_due : (files : Files) (query script : List ℕ) (s : Status) → DueIn (status.Read place.Query fault.Failed) s (λ fails. query_in fails files query) → IsDue (λ broken. prepared broken files query script) s
+query_due files query script s (inl memory) = inl memory
+query_due files query script s (inr (true, blames, is)) = inr (Some place.Query, blames refl, rw is refl)
+query_due files query script s (inr (false, blames, is)) = inr (None, tt, rw is refl)
+
+query_names : (ds : List Declared) (s : Status) (name : List ℕ) → IsOfPart place.Query s → NamesTable 0 ds s name
+query_names ds (status.Read place.Query why) name of_part = tt
+query_names ds status.NotYet name of_part = tt
+query_names ds status.Memory name of_part = tt
+query_names ds s name of_part = absurd of_part
+
+query_count : (told_after : Option Files) (rose : List ℕ → Type 0) (query script table : List ℕ) (s : Status) → IsOfPart place.Query s → RoseWhere told_after (rose query) s → RoseWhere told_after (rose (file_of_status query script table s)) s
+query_count told_after rose query script table (status.Read place.Query why) of_part count = count
+query_count told_after rose query script table status.NotYet of_part count = tt
+query_count told_after rose query script table status.Memory of_part count = tt
+query_count told_after rose query script table s of_part count = absurd of_part
+
+-- the query was refused
+pub refused_at_query : (told told_after : Option Files) (rose : List ℕ → Type 0) (query script table : List ℕ) (s : Status)
+    → PartRefused told told_after (rose query) place.Query (λ fails files. query_in fails files query) s → PreparationRefused told told_after rose query script s table
+refused_at_query told told_after rose query script table s r = record {
+  refusal = query_refusal s r.of_part;
+  due = if_told told _ _ (λ files. query_due files query script s) r.due;
+  names = if_told told _ _ (λ files h. query_names (declared_in files query) s table r.of_part) r.due;
+  count = query_count told_after rose query script table s r.of_part r.count;
+}
+
+-- ---- what comes after the query
+
+later_due : (files : Files) (query script : List ℕ) (c : Checked) (s : Status) → query_in false files query ≡ Ok c → IsDueLater (λ broken. with_query broken files script c) s → IsDue (λ broken. prepared broken files query script) s
+later_due files query script c s well (inl memory) = inl memory
+later_due files query script c s well (inr (broken, fine, blames, is)) = inr (broken, blames, rw (fine, well) is)
+
+later_names : (files : Files) (query : List ℕ) (c : Checked) (s : Status) (table : List ℕ) → query_in false files query ≡ Ok c → NamesTable 0 c.tables s table → NamesTable 0 (declared_in files query) s table
+later_names files query c s table well names = subst (λ (r : Result Checked Status). NamesTable 0 (declared_by r) s table) (sym well) names
+
+same_name : (ds : List Declared) (i k : ℕ) (a b : List ℕ) → (j : ℕ) × (i ≡ 0 + j) × (a ≡ nth_name ds j) → (j : ℕ) × (i ≡ 0 + j) × (b ≡ nth_name ds j) → a ≡ b
+same_name ds i k a b (j, is, at) (m, it, bt) =
+    at ∙ ap (λ n. nth_name ds n) (sym (zero-add j) ∙ sym is ∙ it ∙ zero-add m) ∙ sym bt
+
+later_count : (told_after : Option Files) (rose rises : List ℕ → Type 0) (query script : List ℕ) (ds : List Declared) (s : Status) (table : List ℕ) → ((name : List ℕ) → rose name → rises name)
+    → SpeaksOf told_after rose query script ds s → NamesTable 0 ds s table → RoseWhere told_after (rises (file_of_status query script table s)) s
+later_count told_after rose rises query script ds (status.Read (place.Table i) why) table up (name, names, count) named =
+    subst (λ (n : List ℕ). RoseWhere told_after (rises (table_file n)) (status.Read (place.Table i) why)) (same_name ds i i name table names named)
+    (rose_where_up told_after _ _ (status.Read (place.Table i) why) (up (table_file name)) count)
+later_count told_after rose rises query script ds s table up (name, names, count) named = rose_where_up told_after _ _ s (up (file_of_status query script table s)) count
+
+-- something after the query was refused
+pub refused_later : (told later told_after : Option Files) (rose rises : List ℕ → Type 0) (query script table : List ℕ) (c : Checked) (s : Status)
+    → IfSome told (λ (files : Files). query_in false files query ≡ Ok c) → SameFiles told later → ((name : List ℕ) → rose name → rises name)
+    → RestRefused later told_after rose query script c s → NamesTable 0 c.tables s table → PreparationRefused told told_after rises query script s table
+refused_later told later told_after rose rises query script table c s well same up r names = record {
+  refusal = r.refusal;
+  due = both_told told _ _ _ (λ files w h. later_due files query script c s w h) well (if_told_later told later _ same r.due);
+  names = if_told told _ _ (λ files w. later_names files query c s table w names) well;
+  count = later_count told_after rose rises query script c.tables s table up r.speaks names;
+}
+
+prepared_in : (files : Files) (query script : List ℕ) (c : Checked) (p : Prepared) → query_in false files query ≡ Ok c → with_query None files script c ≡ Ok p → prepared None files query script ≡ Ok p
+prepared_in files query script c p well is = rw well is
+
+-- all was made ready
+pub prepared_well : (told later : Option Files) (query script : List ℕ) (c : Checked) (p : Prepared)
+    → IfSome told (λ (files : Files). query_in false files query ≡ Ok c) → SameFiles told later → IfSome later (λ (files : Files). with_query None files script c ≡ Ok p)
+    → IfSome told (λ (files : Files). prepared None files query script ≡ Ok p)
+prepared_well told later query script c p well same rest = both_told told _ _ _ (λ files w h. prepared_in files query script c p w h) well (if_told_later told later _ same rest)
+
+-- ---- the name of a table by its number
+
+pub nth_name-at : (ds : List Declared) (i : ℕ) (d : Declared) → slice_get ds i ≡ Some d → d.name ≡ nth_name ds i
+nth_name-at [] i d e = absurd (let f : ◌≡◌ {A = Option Declared} None (Some d) = e in cc f)
+nth_name-at (x ∷ xs) zero d e = let same : x ≡ d = cc e in ap (λ (y : Declared). y.name) (sym same)
+nth_name-at (x ∷ xs) (suc i) d e = nth_name-at xs i d e
+
+pub nth_name-past : (ds : List Declared) (i : ℕ) → length ds ≤ i → [] ≡ nth_name ds i
+nth_name-past [] i past = refl
+nth_name-past (d ∷ ds) zero past = absurd (omega (arith, past))
+nth_name-past (d ∷ ds) (suc i) past = nth_name-past ds i (omega (arith, past))

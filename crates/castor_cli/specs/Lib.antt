@@ -1,0 +1,13 @@
+pub mod Answers
+pub mod Causes
+pub mod Commands
+pub mod Gives
+pub mod Lines
+pub mod OneForm
+pub mod Outcome
+pub mod Preparation
+pub mod Printing
+pub mod Puts
+pub mod Replies
+pub mod Status
+pub mod Telling

@@ -1,0 +1,123 @@
+-- What is made ready before the input is read, check by check, or the status that the first refusal gives.
+use Rattle.std.specs.Prelude.{ℕ, zero, suc, ◌+◌, ◌&&◌, ◌==◌, List, [], ◌∷◌, Bool, true, false, nat_lt, length, Option, Some, None, Result, Ok, Err, codes, if◌then◌else◌}
+use Rattle.castor_base.specs.Files.{Files}
+use Rattle.castor_val.specs.declared.table.Table.{Table}
+use Rattle.castor_load.specs.declared.error.LoadError.{LoadError}
+use Rattle.castor_load.specs.Rows.{table_of}
+use Rattle.castor_parse.specs.declared.token.Token.{Token}
+use Rattle.castor_parse.specs.Tokens.{tokens_of}
+use Rattle.castor_cli.specs.declared.checked.Checked.{Checked}
+use Rattle.castor_cli.specs.declared.checked.Declared.{Declared}
+use Rattle.castor_cli.specs.declared.status.Place.{Place}
+use Rattle.castor_cli.specs.declared.status.Place.TheVariants as place
+use Rattle.castor_cli.specs.declared.status.ReadFault.TheVariants as fault
+use Rattle.castor_cli.specs.declared.status.Status.{Status}
+use Rattle.castor_cli.specs.declared.status.Status.TheVariants as status
+use Rattle.castor_cli.specs.declared.preparation.Prepared.{Prepared}
+use Rattle.castor_cli.specs.OneForm.{is_name, is_spelled, query_in_text}
+use Rattle.castor_cli.specs.Status.{table_file}
+
+-- an answer, and then what it is needed for; the first refusal is the refusal of the whole
+abbrev pub after : {A B : Type 0} → Result A Status → (A → Result B Status) → Result B Status
+after (Ok a) next = next a
+after (Err why) next = Err why
+
+-- what a run's devices did: the place that failed, if one did
+abbrev pub Broken : Type 0
+Broken = Option Place
+
+abbrev pub query_fails : Broken → Bool
+query_fails (Some place.Query) = true
+query_fails b = false
+
+abbrev pub script_fails : Broken → Bool
+script_fails (Some place.Script) = true
+script_fails b = false
+
+-- the number of the table whose file failed
+abbrev pub failing_table : Broken → Option ℕ
+failing_table (Some (place.Table i)) = Some i
+failing_table b = None
+
+-- the bytes of a file of at most so many, unless its device fails
+abbrev pub readable : Bool → Place → ℕ → Option (List ℕ) → Result (List ℕ) Status
+readable fails p limit None = Err (status.Read p fault.Absent)
+readable fails p limit (Some bytes) = if nat_lt limit (length bytes) then Err (status.Read p fault.TooLong) else (if fails then Err (status.Read p fault.Failed) else Ok bytes)
+
+-- the limits on files, in bytes
+abbrev pub text_limit : ℕ
+text_limit = 1048576
+
+abbrev pub table_limit : ℕ
+table_limit = 268435456
+
+-- the checked query of a text, where it is answered yet
+abbrev pub if_answered : Option Checked → Result Checked Status
+if_answered None = Err status.NotYet
+if_answered (Some c) = Ok c
+
+abbrev pub query_of : List ℕ → Result Checked Status
+query_of text = if_answered (query_in_text text)
+
+-- the tokens are the name `finish` and a semicolon
+abbrev pub is_finish : List ℕ → List Token → Bool
+is_finish text ts = (length ts == 2) && is_name text ts 0 && is_spelled text ts 0 (codes "finish") && is_spelled text ts 1 (codes ";")
+
+abbrev pub are_finish : List ℕ → Option (List Token) → Bool
+are_finish text None = false
+are_finish text (Some ts) = is_finish text ts
+
+-- the one script that is built yet: `finish;`
+abbrev pub script_of : List ℕ → Result (Unit {0}) Status
+script_of text = if are_finish text (tokens_of text) then Ok tt else Err status.NotYet
+
+abbrev pub if_loaded : ℕ → Result Table LoadError → Result Table Status
+if_loaded i (Ok t) = Ok t
+if_loaded i (Err why) = Err (status.Table i why)
+
+-- the table of a declaration, from the file of its name
+abbrev pub table_in : Bool → Files → ℕ → Declared → Result Table Status
+table_in fails files i d = after (readable fails (place.Table i) table_limit (files (table_file d.name))) (λ bytes. if_loaded i (table_of d.columns bytes))
+
+-- the first of the tables is the one that fails
+abbrev pub first_fails : Option ℕ → Bool
+first_fails None = false
+first_fails (Some zero) = true
+first_fails (Some (suc k)) = false
+
+-- the one that fails, counted without the first
+abbrev pub later_fails : Option ℕ → Option ℕ
+later_fails None = None
+later_fails (Some zero) = None
+later_fails (Some (suc k)) = Some k
+
+-- the tables of declarations, the first of which has this number
+abbrev pub tables_in : Option ℕ → Files → ℕ → List Declared → Result (List Table) Status
+tables_in failing files i [] = Ok []
+tables_in failing files i (d ∷ ds) = after (table_in (first_fails failing) files i d) (λ t. after (tables_in (later_fails failing) files (i + 1) ds) (λ ts. Ok (t ∷ ts)))
+
+-- the script, by its name
+abbrev pub script_in : Bool → Files → List ℕ → Result (Unit {0}) Status
+script_in fails files script = after (readable fails place.Script text_limit (files script)) script_of
+
+-- the checked query, by its name
+abbrev pub query_in : Bool → Files → List ℕ → Result Checked Status
+query_in fails files query = after (readable fails place.Query text_limit (files query)) query_of
+
+-- the script, and then the tables, of a checked query
+abbrev pub with_query : Broken → Files → List ℕ → Checked → Result Prepared Status
+with_query broken files script c =
+    after (script_in (script_fails broken) files script) (λ done.
+    after (tables_in (failing_table broken) files 0 c.tables) (λ ts. Ok (record { checked = c; tables = ts })))
+
+-- the query, the script and the tables, each read and then checked, in this order
+abbrev pub prepared : Broken → Files → List ℕ → List ℕ → Result Prepared Status
+prepared broken files query script = after (query_in (query_fails broken) files query) (with_query broken files script)
+
+-- the tables that a query declares, where it is accepted
+abbrev pub declared_by : Result Checked Status → List Declared
+declared_by (Ok c) = c.tables
+declared_by (Err why) = []
+
+abbrev pub declared_in : Files → List ℕ → List Declared
+declared_in files query = declared_by (query_in false files query)

@@ -1,0 +1,61 @@
+-- The number of each status, and the line that tells of it.
+use Rattle.std.specs.Prelude.{ℕ, List, [], ◌∷◌, ◌++◌, codes, flat_map, slice_index_or}
+use Rattle.std.specs.Fmt.{decimal}
+use Rattle.castor_load.specs.declared.error.LoadError.{LoadError}
+use Rattle.castor_load.specs.declared.error.LoadError.TheVariants as load
+use Rattle.castor_cli.specs.declared.status.Place.{Place}
+use Rattle.castor_cli.specs.declared.status.Place.TheVariants as place
+use Rattle.castor_cli.specs.declared.status.ReadFault.{ReadFault}
+use Rattle.castor_cli.specs.declared.status.ReadFault.TheVariants as fault
+use Rattle.castor_cli.specs.declared.status.Status.{Status}
+use Rattle.castor_cli.specs.declared.status.Status.TheVariants as status
+
+abbrev pub code_of : Status → ℕ
+code_of status.Ok = 0
+code_of status.Usage = 2
+code_of (status.Read p why) = 3
+code_of (status.Write p) = 4
+code_of (status.Table i why) = 7
+code_of status.TooLong = 10
+code_of status.Memory = 11
+code_of status.NotYet = 12
+
+-- the file of a table, by the table's name
+abbrev pub table_file : List ℕ → List ℕ
+table_file table = table ++ codes ".csv"
+
+-- what a place is called: a file by its name, which the words or the query give
+abbrev pub place_name : List (List ℕ) → List ℕ → Place → List ℕ
+place_name words table place.Query = slice_index_or words 1 []
+place_name words table place.Script = slice_index_or words 2 []
+place_name words table (place.Table i) = table_file table
+place_name words table place.Image = slice_index_or words 3 []
+place_name words table place.Input = codes "input"
+place_name words table place.Output = codes "output"
+
+-- pieces, one after another
+abbrev pub in_a_row : List (List ℕ) → List ℕ
+in_a_row pieces = flat_map (λ piece. piece) pieces
+
+-- the line for a file that isn't the table
+abbrev pub table_line : List ℕ → LoadError → List ℕ
+table_line table load.BadHeader = in_a_row (codes "castor: table " ∷ table ∷ codes ": header\n" ∷ [])
+table_line table (load.BadRecord number) = in_a_row (codes "castor: table " ∷ table ∷ codes ": record " ∷ decimal number ∷ codes "\n" ∷ [])
+table_line table (load.BadField number column) = in_a_row (codes "castor: table " ∷ table ∷ codes ": record " ∷ decimal number ∷ codes " field " ∷ decimal column ∷ codes "\n" ∷ [])
+table_line table load.Memory = codes "castor: memory\n"
+
+abbrev pub fault_end : ReadFault → List ℕ
+fault_end fault.Absent = codes ": absent\n"
+fault_end fault.TooLong = codes ": too long\n"
+fault_end fault.Failed = codes ": failed\n"
+
+-- the line that tells of a status, by the words and the name of the table that it may speak of: none for Ok
+abbrev pub error_text : List (List ℕ) → List ℕ → Status → List ℕ
+error_text words table status.Ok = []
+error_text words table status.Usage = codes "castor: usage: answer QUERY SCRIPT, build QUERY SCRIPT IMAGE, ask IMAGE, show QUERY SCRIPT, code IMAGE, sample N\n"
+error_text words table (status.Read p why) = codes "castor: read " ++ place_name words table p ++ fault_end why
+error_text words table (status.Write p) = codes "castor: write " ++ place_name words table p ++ codes ": failed\n"
+error_text words table (status.Table i why) = table_line table why
+error_text words table status.TooLong = codes "castor: input: too long\n"
+error_text words table status.Memory = codes "castor: memory\n"
+error_text words table status.NotYet = codes "castor: not yet\n"

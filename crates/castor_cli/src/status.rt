@@ -1,0 +1,71 @@
+//! How a run of a command ended.
+
+ghost use Rattle.std.specs.Prelude.{◌≡◌};
+ghost use Rattle.castor_cli.specs.Status.{code_of};
+
+use castor_load::LoadError;
+
+/// What a command reads or writes.
+#[derive(Clone, Copy, Debug, PartialEq, Eq)]
+pub enum Place {
+    /// The file of the query.
+    Query,
+    /// The file of the script.
+    Script,
+    /// The file of a table, from 0.
+    Table(u32),
+    /// The file of the image.
+    Image,
+    /// The input, which has the question lines.
+    Input,
+    /// The output, which gets the replies.
+    Output,
+}
+
+/// Why a place can't be read.
+#[derive(Clone, Copy, Debug, PartialEq, Eq)]
+pub enum ReadFault {
+    /// There is no such file.
+    Absent,
+    /// It has more bytes than its limit.
+    TooLong,
+    /// The device failed.
+    Failed,
+}
+
+/// How a run ended. `Ok` means that all was done; with any other status one line on the error
+/// output says which it is.
+#[derive(Clone, Copy, Debug, PartialEq, Eq)]
+pub enum Status {
+    Ok,
+    /// The words are no form of a command.
+    Usage,
+    Read(Place, ReadFault),
+    Write(Place),
+    /// A table, from 0, and why its file isn't one.
+    Table(u32, LoadError),
+    /// The input has more than 67,108,864 bytes.
+    TooLong,
+    /// There was no memory.
+    Memory,
+    /// A command, a query, a script or a table is asked for that isn't built yet.
+    NotYet,
+}
+
+impl Status {
+    /// The number that the program ends with. Takes no memory.
+    pub fn code(self) -> u8
+        ensures { result ≡ code_of self }
+    {
+        match self {
+            Status::Ok => 0,
+            Status::Usage => 2,
+            Status::Read(_, _) => 3,
+            Status::Write(_) => 4,
+            Status::Table(_, _) => 7,
+            Status::TooLong => 10,
+            Status::Memory => 11,
+            Status::NotYet => 12,
+        }
+    }
+}

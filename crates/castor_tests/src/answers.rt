@@ -1,0 +1,49 @@
+//! Replies to lines of parameters.
+
+use crate::world::{BY_CUSTOMER, answer};
+use castor_cli::Status;
+use std::test::Fail;
+
+#[test]
+fn prints_the_rows_of_a_filter(rt: HostRuntime) -> Result<(), Fail> {
+    let ran = answer(rt.alloc(), BY_CUSTOMER, "ann\n")?;
+    assert_eq!(rt; ran.status, Status::Ok);
+    assert_eq!(rt;
+        ran.output.as_slice(),
+        b"rows 2\nid,cust,total\n1,ann,30\n3,ann,5\n".as_slice()
+    );
+    assert_eq!(rt; ran.errors.len(), 0);
+    assert_eq!(rt; ran.input_left, 0);
+    Ok(())
+}
+
+#[test]
+fn takes_each_line_as_a_record_of_parameters(rt: HostRuntime) -> Result<(), Fail> {
+    let query =
+        "table orders (id int, cust text, total int); param n int; query filter(id = $n, orders)";
+    let ran = answer(rt.alloc(), query, "x\n1,2\n+003\n\"x\n")?;
+    assert_eq!(rt; ran.status, Status::Ok);
+    let expected =
+        b"bad parameters\nbad parameters\nrows 1\nid,cust,total\n3,ann,5\nbad parameters\n";
+    assert_eq!(rt; ran.output.as_slice(), expected.as_slice());
+    Ok(())
+}
+
+#[test]
+fn prints_nothing_for_an_empty_input(rt: HostRuntime) -> Result<(), Fail> {
+    let ran = answer(rt.alloc(), BY_CUSTOMER, "")?;
+    assert_eq!(rt; ran.status, Status::Ok);
+    assert_eq!(rt; ran.output.len(), 0);
+    Ok(())
+}
+
+#[test]
+fn answers_a_last_line_without_its_end(rt: HostRuntime) -> Result<(), Fail> {
+    let ran = answer(rt.alloc(), BY_CUSTOMER, "zed\nbob")?;
+    assert_eq!(rt; ran.status, Status::Ok);
+    assert_eq!(rt;
+        ran.output.as_slice(),
+        b"rows 0\nid,cust,total\nrows 1\nid,cust,total\n2,bob,20\n".as_slice()
+    );
+    Ok(())
+}

@@ -2,10 +2,11 @@
 
 ghost use Rattle.std.specs.Prelude.{◌≡◌, IfOk};
 
+use crate::assembly::{both, boxed};
 use crate::expr::Expr;
 use crate::rel::{Bound, Rel};
 use castor_val::Memory;
-use sqlite_items::{Boxed, Items};
+use sqlite_items::Items;
 use std::alloc::Global;
 
 /// An equal expression. Linear in the tree and in the bytes of its texts.
@@ -139,26 +140,4 @@ fn copy_items<T: Copy>(alloc: Global, items: &[T]) -> Result<Items<T>, Memory>
     ensures { IfOk result (λ copies. copies ≡ items.now) }
 {
     Ok(Items::from_slice(alloc, items)?)
-}
-
-/// What was made, in a box.
-fn boxed<T: Drop>(alloc: Global, made: Result<T, Memory>) -> Result<Boxed<T>, Memory>
-    ensures { IfOk result (λ kept. made ≡ Ok kept) }
-{
-    Ok(Boxed::new(alloc, made?)?)
-}
-
-/// Both that were made, where there was memory for both. Here alone the one is let go where there was
-/// none for the other.
-fn both<A: Drop, B: Drop>(a: Result<A, Memory>, b: Result<B, Memory>) -> Result<(A, B), Memory>
-    ensures first { IfOk result (λ pair. a ≡ Ok pair.0) }
-    ensures second { IfOk result (λ pair. b ≡ Ok pair.1) }
-{
-    match a {
-        Ok(a) => match b {
-            Ok(b) => Ok((a, b)),
-            Err(why) => Err(why),
-        },
-        Err(why) => Err(why),
-    }
 }

@@ -5,6 +5,7 @@
 //! faults. All other crates are measured by them.
 #![tactic(auto)]
 
+pub mod assembly;
 pub mod context;
 pub mod copies;
 pub mod env;
@@ -18,10 +19,13 @@ pub mod rel;
 pub mod scope_numbers;
 pub mod sizes;
 pub mod step;
+#[cfg(test)]
+mod tests;
 pub mod totality;
 pub mod type_env;
 pub mod typing;
 
+pub use assembly::{both, boxed};
 pub use context::Context;
 pub use copies::{copy, copy_all, copy_bound, copy_expr, copy_exprs};
 pub use env::{Env, OwnedEnv};

@@ -1,0 +1,123 @@
+//! Sizes, free scopes, totality and fresh scopes of small relations.
+
+use crate::copies::copy;
+use crate::expr::Op;
+use crate::free_scopes::is_free;
+use crate::rel::{Agg, Bound, Rel};
+use crate::scope_numbers::fresh;
+use crate::sizes::{depth, nodes};
+use crate::tests::build::{
+    MadeRel, bin, cross, dep_join, excl, filter, group, hash, incl, int, list, not, one, ord,
+    param, scalar, scope, table, truth,
+};
+use crate::totality::is_total;
+use std::alloc::Global;
+use std::process::Abort;
+use std::test::Fail;
+
+// depjoin(t0 as k1, filter(k1.0 = k2.0, t1))
+fn nested(alloc: Global) -> MadeRel {
+    let same = bin(alloc, scope(1, 0), Op::Eq, scope(2, 0));
+    dep_join(alloc, 1, table(0), filter(alloc, same, table(1)))
+}
+
+// list(filter(k1.0 = $0, t0) as k1, scalar(not true))
+fn read_outside(alloc: Global) -> MadeRel {
+    let same = bin(alloc, scope(1, 0), Op::Eq, param(0));
+    let body = scalar(not(alloc, truth(true)));
+    list(alloc, 1, filter(alloc, same, table(0)), body)
+}
+
+// ordered(hash(t0 as k1, t1, [k3.0]) as k4, cross(t0, t1), >= k2.0, any)
+fn indexed(alloc: Global) -> MadeRel {
+    let source = hash(alloc, 1, table(0), table(1), one(alloc, scope(3, 0)));
+    let body = cross(alloc, table(0), table(1));
+    ord(alloc, 4, source, body, incl(scope(2, 0)), Ok(Bound::Any))
+}
+
+fn measures(rt: &impl Abort, query: &Rel, all: u64, deep: u64) {
+    assert_eq!(rt; nodes(query), all);
+    assert_eq!(rt; depth(query), deep);
+}
+
+#[test]
+fn measures_trees_and_their_copies(rt: HostRuntime) -> Result<(), Fail> {
+    let a = rt.alloc();
+    measures(&rt, &nested(a)?, 7, 4);
+    measures(&rt, &copy(a, &nested(a)?)?, 7, 4);
+    measures(&rt, &read_outside(a)?, 9, 4);
+    measures(&rt, &copy(a, &read_outside(a)?)?, 9, 4);
+    measures(&rt, &indexed(a)?, 9, 3);
+    measures(&rt, &copy(a, &indexed(a)?)?, 9, 3);
+    Ok(())
+}
+
+#[test]
+fn finds_free_and_fresh_scopes(rt: HostRuntime) -> Result<(), Fail> {
+    let nested = nested(rt.alloc())?;
+    assert!(rt; !is_free(&nested, 1));
+    assert!(rt; is_free(&nested, 2));
+    assert_eq!(rt; fresh(&nested), Some(3));
+    let read_outside = read_outside(rt.alloc())?;
+    assert!(rt; is_free(&read_outside, 1));
+    assert_eq!(rt; fresh(&read_outside), Some(2));
+    let indexed = indexed(rt.alloc())?;
+    assert!(rt; !is_free(&indexed, 1));
+    assert!(rt; is_free(&indexed, 2));
+    assert!(rt; is_free(&indexed, 3));
+    assert!(rt; !is_free(&indexed, 4));
+    assert_eq!(rt; fresh(&indexed), Some(5));
+    Ok(())
+}
+
+fn is_fresh(rt: &impl Abort, query: MadeRel, due: Option<u32>) {
+    match query {
+        Ok(query) => assert_eq!(rt; fresh(&query), due),
+        Err(_) => assert!(rt; false, "no memory"),
+    }
+}
+
+#[test]
+fn has_no_fresh_scope_above_the_greatest(rt: HostRuntime) {
+    is_fresh(&rt, table(7), Some(0));
+    is_fresh(&rt, scalar(scope(u32::MAX - 1, 0)), Some(u32::MAX));
+    is_fresh(&rt, scalar(scope(u32::MAX, 0)), None);
+    is_fresh(
+        &rt,
+        dep_join(rt.alloc(), u32::MAX, table(0), table(0)),
+        None,
+    );
+}
+
+fn is_called_total(rt: &impl Abort, query: MadeRel, due: bool) {
+    match query {
+        Ok(query) => assert_eq!(rt; is_total(&query), due),
+        Err(_) => assert!(rt; false, "no memory"),
+    }
+}
+
+#[test]
+fn knows_what_cannot_fault(rt: HostRuntime) {
+    let a = rt.alloc();
+    is_called_total(&rt, nested(a), true);
+    is_called_total(&rt, indexed(a), true);
+    is_called_total(&rt, scalar(bin(a, int(1), Op::Add, int(1))), false);
+    let bound = excl(bin(a, int(1), Op::Add, int(1)));
+    is_called_total(
+        &rt,
+        ord(a, 1, table(0), table(0), Ok(Bound::Any), bound),
+        false,
+    );
+    is_called_total(&rt, group(a, &[], &[Agg::Count], table(0)), true);
+    is_called_total(
+        &rt,
+        group(a, &[], &[Agg::Count, Agg::Min(0)], table(0)),
+        false,
+    );
+    is_called_total(
+        &rt,
+        group(a, &[0], &[Agg::Min(0), Agg::Max(0)], table(0)),
+        true,
+    );
+    is_called_total(&rt, group(a, &[0], &[Agg::Sum(0)], table(0)), false);
+}

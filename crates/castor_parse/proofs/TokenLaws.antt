@@ -1,0 +1,102 @@
+-- The tokens of a text, step by step.
+use Rattle.std.proofs.Common.{◌≡◌, ℕ, zero, suc, ◌+◌, ◌-◌, ◌<◌, ◌≤◌, List, [], ◌∷◌, ◌++◌, length, drop, Option, Some, None, refl, sym, ap, ◌∙◌, subst, append_assoc, append-nil, add-zero, arith}
+use Rattle.std.specs.Option.{option_map}
+use Rattle.std.proofs.lemmas.List.{drop_all}
+use Rattle.castor_parse.specs.declared.token.Token.{Token}
+use Rattle.castor_parse.specs.declared.token.Kind.{Kind}
+use Rattle.castor_parse.specs.declared.cut.Piece.{Piece}
+use Rattle.castor_parse.specs.declared.cut.Piece.TheVariants as piece
+use Rattle.castor_parse.specs.Cut.{AreInOrder}
+use Rattle.castor_parse.specs.Tokens.{Bytes, tokens_of, tokens_from, piece_of, with_piece, token_at}
+
+-- these tokens, and those that come after them
+abbrev pub after : List Token → Option (List Token) → Option (List Token)
+after ts more = option_map (λ us. ts ++ us) more
+
+pub after-nil : (more : Option (List Token)) → after [] more ≡ more
+after-nil None = refl
+after-nil (Some us) = refl
+
+pub after-push : (ts : List Token) (t : Token) (more : Option (List Token)) → after ts (option_map (λ us. t ∷ us) more) ≡ after (ts ++ t ∷ []) more
+after-push ts t None = refl
+after-push ts t (Some us) = ap Some (sym (append_assoc ts (t ∷ []) us))
+
+-- the bytes of a piece that was cut off are passed
+pub passed : (n at : ℕ) (z : Bytes) → n ≤ length z → tokens_from at n z ≡ tokens_from (at + n) 0 (drop n z)
+passed zero at z h = ap (λ k. tokens_from k 0 z) (sym (add-zero at))
+passed (suc n) at [] h = absurd (omega arith)
+passed (suc n) at (b ∷ z) h =
+    let e : at + 1 + n ≡ at + suc n = omega arith in
+    passed n (at + 1) z (omega arith) ∙ ap (λ k. tokens_from k 0 (drop n z)) e
+
+-- no bytes
+abbrev nothing : Bytes
+nothing = []
+
+drop-nil : (k : ℕ) → drop k nothing ≡ nothing
+drop-nil zero = refl
+drop-nil (suc k) = refl
+
+drop-drop : (n m : ℕ) (z : Bytes) → drop n (drop m z) ≡ drop (m + n) z
+drop-drop n zero z = let e : 0 + n ≡ n = omega arith in ap (λ k. drop k z) (sym e)
+drop-drop n (suc m) [] = drop-nil n ∙ sym (drop-nil (suc m + n))
+drop-drop n (suc m) (b ∷ z) = let e : suc m + n ≡ suc (m + n) = omega arith in drop-drop n m z ∙ ap (λ k. drop k (b ∷ z)) (sym e)
+
+-- one step past a piece of at least one byte
+past : (n at b : ℕ) (z : Bytes) → 1 ≤ n → n ≤ length (b ∷ z) → tokens_from (at + 1) (n - 1) z ≡ tokens_from (at + n) 0 (drop n (b ∷ z))
+past zero at b z some h = absurd (omega arith)
+past (suc n) at b z some h =
+    let e : suc n - 1 ≡ n = omega arith in
+    let f : at + 1 + n ≡ at + suc n = omega arith in
+    ap (λ k. tokens_from (at + 1) k z) e ∙ passed n (at + 1) z (omega arith) ∙ ap (λ k. tokens_from k 0 (drop n z)) f
+
+-- the tokens of what begins with a blank
+from_blank : (at len : ℕ) (z : Bytes) → piece_of z ≡ piece.Blank len → 1 ≤ len → len ≤ length z → tokens_from at 0 z ≡ tokens_from (at + len) 0 (drop len z)
+from_blank at len [] is some h = absurd (omega arith)
+from_blank at len (b ∷ z) is some h = ap (λ p. with_piece at p (λ n. tokens_from (at + 1) (n - 1) z)) is ∙ past len at b z some h
+
+-- the tokens of what begins with a token
+from_token : (at len : ℕ) (k : Kind) (z : Bytes) → piece_of z ≡ piece.Token k len → 1 ≤ len → len ≤ length z → tokens_from at 0 z ≡ option_map (λ ts. token_at at k len ∷ ts) (tokens_from (at + len) 0 (drop len z))
+from_token at len k [] is some h = absurd (omega arith)
+from_token at len k (b ∷ z) is some h = ap (λ p. with_piece at p (λ n. tokens_from (at + 1) (n - 1) z)) is ∙ ap (option_map (λ ts. token_at at k len ∷ ts)) (past len at b z some h)
+
+-- no tokens begin with what is no piece
+pub from_stray : (at : ℕ) (z : Bytes) → 0 < length z → piece_of z ≡ piece.Stray → tokens_from at 0 z ≡ None
+from_stray at [] some is = absurd (omega arith)
+from_stray at (b ∷ z) some is = ap (λ p. with_piece at p (λ n. tokens_from (at + 1) (n - 1) z)) is
+
+pub from_unclosed : (at : ℕ) (z : Bytes) → 0 < length z → piece_of z ≡ piece.Unclosed → tokens_from at 0 z ≡ None
+from_unclosed at [] some is = absurd (omega arith)
+from_unclosed at (b ∷ z) some is = ap (λ p. with_piece at p (λ n. tokens_from (at + 1) (n - 1) z)) is
+
+-- the loop that cuts, past a blank and past a token
+pub cut_blank : (text : Bytes) (at len : ℕ) → piece_of (drop at text) ≡ piece.Blank len → 1 ≤ len → len ≤ length (drop at text) → tokens_from at 0 (drop at text) ≡ tokens_from (at + len) 0 (drop (at + len) text)
+cut_blank text at len is some h = from_blank at len (drop at text) is some h ∙ ap (λ z. tokens_from (at + len) 0 z) (drop-drop len at text)
+
+pub cut_token : (text : Bytes) (at len : ℕ) (k : Kind) → piece_of (drop at text) ≡ piece.Token k len → 1 ≤ len → len ≤ length (drop at text) → tokens_from at 0 (drop at text) ≡ option_map (λ ts. token_at at k len ∷ ts) (tokens_from (at + len) 0 (drop (at + len) text))
+cut_token text at len k is some h = from_token at len k (drop at text) is some h ∙ ap (λ z. option_map (λ ts. token_at at k len ∷ ts) (tokens_from (at + len) 0 z)) (drop-drop len at text)
+
+-- the tokens so far and those of what is left, after one more token
+pub cut_push : (text : Bytes) (ts us : List Token) (at len : ℕ) (k : Kind) → tokens_of text ≡ after ts (tokens_from at 0 (drop at text)) → us ≡ ts ++ token_at at k len ∷ [] → piece_of (drop at text) ≡ piece.Token k len → 1 ≤ len → len ≤ length (drop at text) → tokens_of text ≡ after us (tokens_from (at + len) 0 (drop (at + len) text))
+cut_push text ts us at len k so_far pushed is some h =
+    so_far ∙ ap (after ts) (cut_token text at len k is some h) ∙ after-push ts (token_at at k len) (tokens_from (at + len) 0 (drop (at + len) text)) ∙ ap (λ vs. after vs (tokens_from (at + len) 0 (drop (at + len) text))) (sym pushed)
+
+pub cut_pass : (text : Bytes) (ts : List Token) (at len : ℕ) → tokens_of text ≡ after ts (tokens_from at 0 (drop at text)) → piece_of (drop at text) ≡ piece.Blank len → 1 ≤ len → len ≤ length (drop at text) → tokens_of text ≡ after ts (tokens_from (at + len) 0 (drop (at + len) text))
+cut_pass text ts at len so_far is some h = so_far ∙ ap (after ts) (cut_blank text at len is some h)
+
+pub cut_none : (text : Bytes) (ts : List Token) (at : ℕ) → tokens_of text ≡ after ts (tokens_from at 0 (drop at text)) → tokens_from at 0 (drop at text) ≡ None → tokens_of text ≡ None
+cut_none text ts at so_far none = so_far ∙ ap (after ts) none
+
+after-some : (ts : List Token) → after ts (Some []) ≡ Some ts
+after-some ts = ap Some (append-nil ts)
+
+pub cut_end : (text : Bytes) (ts : List Token) (at : ℕ) → tokens_of text ≡ after ts (tokens_from at 0 (drop at text)) → length text ≤ at → tokens_of text ≡ Some ts
+cut_end text ts at so_far done = so_far ∙ ap (λ z. after ts (tokens_from at 0 z)) (drop_all at text done) ∙ after-some ts
+
+pub in_order_later : (ts : List Token) (start at more : ℕ) → AreInOrder start at ts → at ≤ more → AreInOrder start more ts
+in_order_later [] start at more h le = omega arith
+in_order_later (t ∷ ts) start at more h le = (h.0, h.1, in_order_later ts t.span.to at more h.2 le)
+
+pub in_order_push : (ts : List Token) (start at len : ℕ) (k : Kind) → AreInOrder start at ts → 1 ≤ len → AreInOrder start (at + len) (ts ++ token_at at k len ∷ [])
+in_order_push [] start at len k h some = (h, omega arith, omega arith)
+in_order_push (t ∷ ts) start at len k h some = (h.0, h.1, in_order_push ts t.span.to at len k h.2 some)

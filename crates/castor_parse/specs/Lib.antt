@@ -1,2 +1,4 @@
 pub mod Cut
+pub mod Grammar
+pub mod Lexemes
 pub mod Tokens

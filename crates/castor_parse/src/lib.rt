@@ -3,6 +3,8 @@
 
 pub mod cut;
 pub mod token;
+pub mod tree;
 
 pub use cut::{CutError, tokens};
 pub use token::{Keyword, Kind, Span, Symbol, Token};
+pub use tree::{Decl, File, Item, PAgg, PBound, PCol, PExpr, PRel, Word};

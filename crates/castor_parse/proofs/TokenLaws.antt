@@ -1,12 +1,13 @@
 -- The tokens of a text, step by step.
-use Rattle.std.proofs.Common.{◌≡◌, ℕ, zero, suc, ◌+◌, ◌-◌, ◌<◌, ◌≤◌, List, [], ◌∷◌, ◌++◌, length, drop, Option, Some, None, refl, sym, ap, ◌∙◌, subst, append_assoc, append-nil, add-zero, arith}
+use Rattle.std.proofs.Common.{◌≡◌, ℕ, zero, suc, ◌+◌, ◌-◌, ◌<◌, ◌≤◌, List, [], ◌∷◌, ◌++◌, length, get_or, drop, Option, Some, None, refl, sym, ap, ◌∙◌, subst, append_assoc, append-nil, add-zero, arith, length-drop}
 use Rattle.std.specs.Option.{option_map}
-use Rattle.std.proofs.lemmas.List.{drop_all}
+use Rattle.std.proofs.lemmas.List.{drop_all, get_or-drop}
 use Rattle.castor_parse.specs.declared.token.Token.{Token}
 use Rattle.castor_parse.specs.declared.token.Kind.{Kind}
+use Rattle.castor_parse.specs.declared.token.Kind.TheVariants as kind
 use Rattle.castor_parse.specs.declared.cut.Piece.{Piece}
 use Rattle.castor_parse.specs.declared.cut.Piece.TheVariants as piece
-use Rattle.castor_parse.specs.Cut.{AreInOrder}
+use Rattle.castor_parse.specs.Cut.{StandsAt, AreInOrder}
 use Rattle.castor_parse.specs.Tokens.{Bytes, tokens_of, tokens_from, piece_of, with_piece, token_at}
 
 -- these tokens, and those that come after them
@@ -100,3 +101,21 @@ in_order_later (t ∷ ts) start at more h le = (h.0, h.1, in_order_later ts t.sp
 pub in_order_push : (ts : List Token) (start at len : ℕ) (k : Kind) → AreInOrder start at ts → 1 ≤ len → AreInOrder start (at + len) (ts ++ token_at at k len ∷ [])
 in_order_push [] start at len k h some = (h, omega arith, omega arith)
 in_order_push (t ∷ ts) start at len k h some = (h.0, h.1, in_order_push ts t.span.to at len k h.2 some)
+
+-- a byte of what is left, and the length of that
+byte_later : (z : Bytes) (at i : ℕ) → get_or (drop at z) i 0 ≡ get_or z (at + i) 0
+byte_later z at i = get_or-drop at z i 0
+
+last_later : (z : Bytes) (at len : ℕ) → 1 ≤ len → get_or (drop at z) (len - 1) 0 ≡ get_or z (at + len - 1) 0
+last_later z at len some = let e : at + (len - 1) ≡ at + len - 1 = omega arith in byte_later z at (len - 1) ∙ ap (λ i. get_or z i 0) e
+
+first_later : (z : Bytes) (at : ℕ) → get_or (drop at z) 0 0 ≡ get_or z at 0
+first_later z at = byte_later z at 0 ∙ ap (λ i. get_or z i 0) (add-zero at)
+
+-- a token at the front of what is left stands in the text
+pub stands_later : (z : Bytes) (at len : ℕ) (k : Kind) → StandsAt (drop at z) k 0 len → at ≤ length z → StandsAt z k at (at + len)
+stands_later z at len kind.Name h le = (omega (arith, h.0), omega (arith, length-drop at z, h.0, h.1), rw (sym (first_later z at)) h.2, rw (sym (last_later z at len h.0)) h.3)
+stands_later z at len kind.Int h le = (omega (arith, h.0), omega (arith, length-drop at z, h.0, h.1))
+stands_later z at len kind.Text h le = (omega (arith, h.0), omega (arith, length-drop at z, h.0, h.1), sym (first_later z at) ∙ h.2, sym (last_later z at len (omega (arith, h.0))) ∙ h.3)
+stands_later z at len (kind.Keyword k) h le = (omega (arith, h.0), omega (arith, length-drop at z, h.0, h.1))
+stands_later z at len (kind.Symbol s) h le = (omega (arith, h.0), omega (arith, length-drop at z, h.0, h.1))

@@ -1,4 +1,6 @@
 pub mod Cut
 pub mod Grammar
 pub mod Lexemes
+pub mod Parser
+pub mod Sizes
 pub mod Tokens

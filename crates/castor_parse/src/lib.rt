@@ -2,6 +2,7 @@
 #![tactic(auto)]
 
 pub mod cut;
+mod parser;
 pub mod token;
 pub mod tree;
 

@@ -1,5 +1,5 @@
 -- What a grammar sees of a token: the name, the number or the text that it stands for.
-use Rattle.std.specs.Prelude.{ℕ, ◌+◌, ◌-◌, ◌*◌, ◌==◌, ◌&&◌, Bool, true, false, if◌then◌else◌, List, [], ◌∷◌, map, fold, take, drop}
+use Rattle.std.specs.Prelude.{◌≡◌, ◌≤◌, ◌^◌, Option, Some, None, ℕ, ◌+◌, ◌-◌, ◌*◌, ◌==◌, ◌&&◌, Bool, true, false, if◌then◌else◌, List, [], ◌∷◌, map, fold, take, drop}
 use Rattle.castor_parse.specs.declared.token.Keyword.{Keyword}
 use Rattle.castor_parse.specs.declared.token.Symbol.{Symbol}
 use Rattle.castor_parse.specs.declared.token.Span.{Span}
@@ -29,6 +29,11 @@ slice z at = take (at.to - at.from) (drop at.from z)
 -- the number that digits spell
 abbrev pub number_of : Bytes → ℕ
 number_of digits = fold (λ n b. 10 * n + (b - 48)) 0 digits
+
+-- a number where it is below 2^64
+abbrev pub IsNumber : ℕ → Option ℕ → Type 0
+IsNumber number None = 2 ^ 64 ≤ number
+IsNumber number (Some n) = n ≡ number
 
 -- A text with one quote for each two. The flag says that the byte before was the first of two.
 abbrev pub undoubled_from : Bool → Bytes → Bytes

@@ -186,6 +186,10 @@ expr_node x = node empty_expr x
 abbrev pub rel_node : PRel → Parser PRel
 rel_node x = node empty_rel x
 
+-- what a rule reads, and then this symbol
+unfoldable pub followed : {A : Type 0} → Parser A → Symbol → Parser A
+followed p s = p >>= (λ x. expect_symbol s >> pure x)
+
 -- ---- lists. The number bounds the turns of a loop; each turn passes a token, so the count of tokens is enough.
 
 abbrev pub on_comma : {A : Type 0} → Bool → Parser A → List A → (List A → Parser (List A)) → Parser (List A)
@@ -216,8 +220,12 @@ col_number = advance >> read_int column_limit >>= (λ n. pure (col.Number n))
 unfoldable pub col_name : Parser PCol
 col_name = read_name >>= (λ w. eat_symbol sign.Dot >>= (λ is_dotted. dotted is_dotted w))
 
+abbrev pub col_by : Option Kind → Parser PCol
+col_by (Some (kind.Symbol sign.Hash)) = col_number
+col_by _ = col_name
+
 unfoldable pub read_col : Parser PCol
-read_col = λ st. if is_symbol sign.Hash (first_kind st.rest) then col_number st else col_name st
+read_col = peek >>= col_by
 
 abbrev pub alias_by : Bool → Parser (Option Word)
 alias_by false = pure None
@@ -443,15 +451,11 @@ read_key = read_col >>= (λ c. peek >>= (λ k. falls_by k >>= (λ falls. pure (c
 
 -- one or more in brackets
 unfoldable pub bracketed : {A : Type 0} → Parser A → Parser (List A)
-bracketed item = do
-  expect_symbol sign.OpenBracket
-  found ← separated item
-  expect_symbol sign.CloseBracket
-  pure found
+bracketed item = expect_symbol sign.OpenBracket >> followed (separated item) sign.CloseBracket
 
 abbrev pub maybe_by : {A : Type 0} → Bool → Parser A → Parser (List A)
 maybe_by true item = pure []
-maybe_by false item = separated item >>= (λ found. expect_symbol sign.CloseBracket >> pure found)
+maybe_by false item = followed (separated item) sign.CloseBracket
 
 -- none, or one or more, in brackets
 unfoldable pub maybe_bracketed : {A : Type 0} → Parser A → Parser (List A)
@@ -461,6 +465,9 @@ maybe_bracketed item = do
   maybe_by is_empty item
 
 -- ---- relations
+
+unfoldable pub read_table_name : Parser PRel
+read_table_name = read_name >>= (λ w. rel_node (r.Table w))
 
 -- each rule takes what reads a relation and an expression inside
 module _ (rel : Parser PRel) (expr : Parser PExpr) where
@@ -477,111 +484,92 @@ module _ (rel : Parser PRel) (expr : Parser PExpr) where
 
   unfoldable pub read_scalar : Parser PRel
   read_scalar = do
-    i ← read_item expr
-    expect_symbol sign.CloseParen
+    i ← followed (read_item expr) sign.CloseParen
     rel_node (r.Scalar i)
 
   unfoldable pub read_rels : Parser (List PRel)
-  read_rels = do
-    ps ← separated rel
-    expect_symbol sign.CloseParen
-    pure ps
+  read_rels = followed (separated rel) sign.CloseParen
 
   unfoldable pub read_select : Parser PRel
   read_select = do
-    is ← bracketed (read_item expr)
-    expect_symbol sign.Comma
-    p ← rel
-    expect_symbol sign.CloseParen
+    is ← followed (bracketed (read_item expr)) sign.Comma
+    p ← followed rel sign.CloseParen
     rel_node (r.Select is p)
 
   unfoldable pub read_filter : Parser PRel
   read_filter = do
-    a ← expr
-    expect_symbol sign.Comma
-    p ← rel
-    expect_symbol sign.CloseParen
+    a ← followed expr sign.Comma
+    p ← followed rel sign.CloseParen
     rel_node (r.Filter a p)
 
   unfoldable pub read_join : Parser PRel
   read_join = do
-    a ← expr
-    expect_symbol sign.Comma
-    p ← rel
-    expect_symbol sign.Comma
-    q ← rel
-    expect_symbol sign.CloseParen
+    a ← followed expr sign.Comma
+    p ← followed rel sign.Comma
+    q ← followed rel sign.CloseParen
     rel_node (r.Join a p q)
 
-  unfoldable pub read_binder : (Word → PRel → PRel → PRel) → Parser PRel
-  read_binder made = do
+  unfoldable pub read_binder : Parser (Word × PRel × PRel)
+  read_binder = do
     source ← read_source
-    q ← rel
-    expect_symbol sign.CloseParen
-    rel_node (made source.1 source.0 q)
+    q ← followed rel sign.CloseParen
+    pure (source.1, source.0, q)
 
   unfoldable pub read_hash : Parser PRel
   read_hash = do
     source ← read_source
-    q ← rel
-    expect_symbol sign.Comma
-    keys ← bracketed expr
-    expect_symbol sign.CloseParen
+    q ← followed rel sign.Comma
+    keys ← followed (bracketed expr) sign.CloseParen
     rel_node (r.Hash source.1 source.0 q keys)
 
   unfoldable pub read_ordered : Parser PRel
   read_ordered = do
     source ← read_source
-    q ← rel
-    expect_symbol sign.Comma
-    lo ← read_lower expr
-    expect_symbol sign.Comma
-    hi ← read_upper expr
-    expect_symbol sign.CloseParen
+    q ← followed rel sign.Comma
+    lo ← followed (read_lower expr) sign.Comma
+    hi ← followed (read_upper expr) sign.CloseParen
     rel_node (r.Ord source.1 source.0 q lo hi)
 
   unfoldable pub read_groupby : Parser PRel
   read_groupby = do
-    keys ← maybe_bracketed read_col
-    expect_symbol sign.Comma
-    aggs ← maybe_bracketed read_agg
-    expect_symbol sign.Comma
-    p ← rel
-    expect_symbol sign.CloseParen
+    keys ← followed (maybe_bracketed read_col) sign.Comma
+    aggs ← followed (maybe_bracketed read_agg) sign.Comma
+    p ← followed rel sign.CloseParen
     rel_node (r.Group keys aggs p)
 
   unfoldable pub read_orderby : Parser PRel
   read_orderby = do
-    keys ← bracketed read_key
-    expect_symbol sign.Comma
-    p ← rel
-    expect_symbol sign.CloseParen
+    keys ← followed (bracketed read_key) sign.Comma
+    p ← followed rel sign.CloseParen
     rel_node (r.Order keys p)
 
   unfoldable pub read_dedup : Parser PRel
   read_dedup = do
-    p ← rel
-    expect_symbol sign.CloseParen
+    p ← followed rel sign.CloseParen
     rel_node (r.Dedup p)
+
+  -- the operators with one operand, which stands last
+  abbrev pub unary_by : Keyword → Parser PRel
+  unary_by word.Select = read_select
+  unary_by word.Filter = read_filter
+  unary_by word.Groupby = read_groupby
+  unary_by word.Orderby = read_orderby
+  unary_by word.Dedup = read_dedup
+  unary_by _ = refuse
 
   abbrev pub rel_by : Keyword → Parser PRel
   rel_by word.Scalar = read_scalar
   rel_by word.Cross = read_rels >>= (λ ps. rel_node (r.Cross ps))
   rel_by word.Concat = read_rels >>= (λ ps. rel_node (r.Concat ps))
-  rel_by word.Select = read_select
-  rel_by word.Filter = read_filter
   rel_by word.Join = read_join
-  rel_by word.Depjoin = read_binder r.DepJoin
-  rel_by word.List = read_binder r.List
+  rel_by word.Depjoin = read_binder >>= (λ b. rel_node (r.DepJoin b.0 b.1 b.2))
+  rel_by word.List = read_binder >>= (λ b. rel_node (r.List b.0 b.1 b.2))
   rel_by word.Hash = read_hash
   rel_by word.Ordered = read_ordered
-  rel_by word.Groupby = read_groupby
-  rel_by word.Orderby = read_orderby
-  rel_by word.Dedup = read_dedup
-  rel_by _ = refuse
+  rel_by k = unary_by k
 
   abbrev pub read_rel_by : Option Kind → Parser PRel
-  read_rel_by (Some kind.Name) = read_name >>= (λ w. rel_node (r.Table w))
+  read_rel_by (Some kind.Name) = read_table_name
   read_rel_by (Some (kind.Keyword k)) = advance >> expect_symbol sign.OpenParen >> rel_by k
   read_rel_by _ = refuse
 
@@ -612,8 +600,7 @@ read_table = do
   advance
   w ← read_name
   expect_symbol sign.OpenParen
-  cs ← separated read_column
-  expect_symbol sign.CloseParen
+  cs ← followed (separated read_column) sign.CloseParen
   expect_symbol sign.Semicolon
   pure (decl.Table w cs)
 

@@ -1,6 +1,6 @@
 //! A parser over the tokens of a text, and the steps that every rule is made of.
 
-ghost use Rattle.std.specs.Prelude.{◌≡◌, length, All, IfOk, IsUtf8, Some};
+ghost use Rattle.std.specs.Prelude.{◌≡◌, ◌≤◌, length, All, IfOk, IsUtf8, Some};
 ghost use Rattle.castor_parse.specs.Cut.{Stands, StandsAt};
 ghost use Rattle.castor_parse.specs.Lexemes.{lexemes, slice, inside, word_at, number_of, undoubled, IsNumber};
 ghost use Rattle.castor_parse.specs.Parser as spec;
@@ -117,6 +117,14 @@ impl<'a> Parser<'a> {
         self.nodes
     }
 
+    /// Where the next token begins.
+    pub fn place(&self) -> Option<u64> {
+        match self.tokens {
+            [token, ..] => Some(token.span.from),
+            [] => None,
+        }
+    }
+
     /// What the next token is.
     pub fn peek(&self) -> Option<Kind>
         ensures { result ≡ spec.first_kind self.now.rest }
@@ -223,7 +231,8 @@ impl<'a> Parser<'a> {
     /// An int of at most this much.
     #[tactic(auto, unfolding(crate::specs::Parser::read_int))]
     pub fn int(&mut self, limit: u64) -> Result<u64, Stop>
-        ensures { Reads (spec.read_int limit self.old) result self.new }
+        ensures value { Reads (spec.read_int limit self.old) result self.new }
+        ensures within { IfOk result (λ n. n ≤ limit) }
     {
         let [token, rest @ ..] = self.tokens else {
             return Err(Stop::Syntax);

@@ -1,6 +1,6 @@
 -- The parser reads a file exactly where the grammar derives one, and that one.
 use Rattle.std.proofs.Common.{◌≡◌, ℕ, zero, suc, ◌+◌, ◌≤◌, ◌<◌, Bool, true, false, ◌&&◌, List, [], ◌∷◌, length, Option, Some, None, refl, sym, ap, ◌∙◌, subst, arith}
-use Rattle.std.specs.Prelude.{nat_le}
+use Rattle.std.specs.Prelude.{nat_le, map, All}
 use Rattle.std.specs.List.{list_all}
 use Rattle.castor_parse.specs.declared.token.Token.{Token}
 use Rattle.castor_parse.specs.declared.tree.Decl.{Decl}
@@ -10,15 +10,19 @@ use Rattle.castor_parse.specs.declared.query.ParseError.{ParseError}
 use Rattle.castor_parse.specs.declared.query.ParseError.TheVariants as refusal
 use Rattle.castor_parse.specs.Tokens.{Bytes, tokens_of}
 use Rattle.castor_parse.specs.Lexemes.{Lexemes, lexemes}
+use Rattle.castor_parse.specs.Cut.{Stands, AreInOrder, AreSpansInOrder}
+use Rattle.castor_parse.specs.Formed.{IsFormed}
 use Rattle.castor_parse.specs.Limits.{is_short, are_few_open, are_few_nots, are_within_limits}
 use Rattle.castor_parse.specs.Grammar.{IsFile}
 use Rattle.castor_parse.specs.Sizes.{nodes, depth}
 use Rattle.castor_parse.specs.Parser.{State, Outcome, at, node_limit, tally, read_file}
 use Rattle.castor_parse.specs.Parsed.{AreTokens, IsSmall, IsSmallFile, IsLarge, IsRead, IsUnread, IsRefused, by_tree, by_grammar, HasOneTree}
+use Rattle.castor_parse.proofs.TokenLaws.{spans_in_order}
 use Rattle.castor_parse.proofs.Outcomes.{Gives, same_pair}
 use Rattle.castor_parse.proofs.Past.{and_first, and_second}
 use Rattle.castor_parse.proofs.SoundFile.{FileRead, file_reads}
 use Rattle.castor_parse.proofs.CompleteFile.{FileDone, file_done}
+use Rattle.castor_parse.proofs.FormedLaws.{tokens_good, file_formed}
 
 -- within the limits, few parentheses are open
 pub few_open : (ts : Lexemes) → are_within_limits ts ≡ true → are_few_open 0 ts ≡ true
@@ -88,3 +92,17 @@ refused text ts refusal.TooLarge tokens h = by_tree ts h.0 h.1 tokens h.2 h.3
 refused text ts refusal.NotUtf8 tokens h = absurd h
 refused text ts (refusal.Syntax place) tokens h = (by_grammar ts tokens h.0, h.1)
 refused text ts refusal.Memory tokens h = tt
+
+short_tokens : (ts : Lexemes) → are_within_limits ts ≡ true → list_all is_short ts ≡ true
+short_tokens ts h = and_first (list_all is_short ts) (are_few_open 0 ts && are_few_nots 0 ts) (and_second (nat_le (length ts) 65536) (list_all is_short ts && (are_few_open 0 ts && are_few_nots 0 ts)) h)
+
+-- the file of tokens within the limits is formed
+pub read_formed : (text : Bytes) (ts : List Token) (file : File) → All (Stands text) ts → are_within_limits (lexemes text ts) ≡ true → IsRead text ts file → IsFormed file
+read_formed text ts file stand within h =
+    let good = tokens_good text ts stand (short_tokens (lexemes text ts) within) in
+    let formed = file_formed h.derived good in
+    record { decls = formed.0; query = formed.1; small = h.small }
+
+-- the spans of a file of tokens in order are in order
+pub ordered : (end : ℕ) (ts : List Token) (file : File) → AreInOrder 0 end ts → file.tokens ≡ map (λ t. t.span) ts → AreSpansInOrder 0 end file.tokens
+ordered end ts file h is = subst (AreSpansInOrder 0 end) (sym is) (spans_in_order ts 0 end h)

@@ -1,6 +1,7 @@
 -- Each part of a tree that the grammar derives is formed, where the lexemes are.
 use Rattle.std.proofs.Common.{◌≡◌, ℕ, Bool, true, false, ◌&&◌, List, [], ◌∷◌, length, Option, Some, None, refl, sym, ap, ◌∙◌}
-use Rattle.std.specs.Prelude.{map, nat_le}
+use Rattle.std.specs.Prelude.{map, nat_le, All}
+use Rattle.std.proofs.lemmas.List.Elements.{All-head, All-tail}
 use Rattle.std.specs.List.{list_all}
 use Rattle.castor_val.specs.declared.value.Ty.{Ty}
 use Rattle.castor_val.specs.declared.value.Ty.TheVariants as ty
@@ -8,6 +9,10 @@ use Rattle.castor_val.specs.declared.value.Value.{Value}
 use Rattle.castor_val.specs.declared.value.Value.TheVariants as value
 use Rattle.castor_alg.specs.declared.expr.Op.{Op}
 use Rattle.castor_alg.specs.declared.expr.Op.TheVariants as op
+use Rattle.castor_parse.specs.declared.token.Kind.{Kind}
+use Rattle.castor_parse.specs.declared.token.Kind.TheVariants as kind
+use Rattle.castor_parse.specs.declared.token.Span.{Span}
+use Rattle.castor_parse.specs.declared.token.Token.{Token}
 use Rattle.castor_parse.specs.declared.tree.Word.{Word}
 use Rattle.castor_parse.specs.declared.tree.Decl.{Decl}
 use Rattle.castor_parse.specs.declared.tree.PCol.{PCol}
@@ -20,7 +25,10 @@ use Rattle.castor_parse.specs.declared.tree.PExpr.TheOpen as E
 use Rattle.castor_parse.specs.declared.tree.PRel.{PRel, fold-roll-PRel}
 use Rattle.castor_parse.specs.declared.tree.PRel.TheVariants as r
 use Rattle.castor_parse.specs.declared.tree.PRel.TheOpen as R
-use Rattle.castor_parse.specs.Lexemes.{Lexeme, name, int, text, keyword, symbol, Lexemes}
+use Rattle.castor_parse.specs.Tokens.{Bytes}
+use Rattle.castor_parse.specs.Cut.{StandsAt, Stands}
+use Rattle.castor_parse.specs.Lexemes.{Lexeme, name, int, text, keyword, symbol, Lexemes, lexeme_of, lexemes}
+use Rattle.castor_parse.specs.Limits.{is_short}
 use Rattle.castor_parse.specs.Grammar as g
 use Rattle.castor_parse.specs.Grammar.{Level, Separated, MaybeSeparated, IsCol, IsAlias, IsExpr, IsItem, IsAggregate, IsAgg, IsKey, IsLower, IsUpper, IsRel, AreRels, IsType, IsColumn, IsDecl, AreDecls, IsFile}
 use Rattle.castor_parse.specs.Formed.{is_word, is_alias, is_col, is_literal, expr_formed_step, is_expr_formed, is_item_formed, is_aggregate_formed, is_agg_formed, is_key_formed, is_bound_formed, has_some, are_true, formed_step, is_formed, is_column_formed, is_decl_formed}
@@ -276,3 +284,18 @@ decls_formed (g.more_decls d s) h = let x = decl_formed d h in let y = decls_for
 -- a file of good lexemes is formed
 pub file_formed : {ts : Lexemes} {ds : List Decl} {q : PRel} → IsFile ts ds q → Good ts → (list_all is_decl_formed ds ≡ true) × (is_formed q ≡ true)
 file_formed (g.file s d) h = let x = decls_formed s h in (x.0, (rel_formed d x.1).0)
+
+-- a token that stands in the text and is short is good
+token_good : (z : Bytes) (k : Kind) (at : Span) → StandsAt z k at.from at.to → is_short (lexeme_of z k at) ≡ true → is_good (lexeme_of z k at) ≡ true
+token_good z kind.Name at h short = and_true h.4 short
+token_good z kind.Int at h short = refl
+token_good z kind.Text at h short = short
+token_good z (kind.Keyword k) at h short = refl
+token_good z (kind.Symbol s) at h short = refl
+
+-- tokens that stand in the text and are short are good
+pub tokens_good : (z : Bytes) (ts : List Token) → All (Stands z) ts → list_all is_short (lexemes z ts) ≡ true → Good (lexemes z ts)
+tokens_good z [] h short = refl
+tokens_good z (t ∷ ts) h short =
+    and_true (token_good z t.kind t.span (All-head (Stands z) t ts h) (and_first (is_short (lexeme_of z t.kind t.span)) (list_all is_short (lexemes z ts)) short))
+    (tokens_good z ts (All-tail (Stands z) t ts h) (and_second (is_short (lexeme_of z t.kind t.span)) (list_all is_short (lexemes z ts)) short))

@@ -17,7 +17,7 @@ use Rattle.castor_parse.specs.Lexemes.{Lexeme, name, int, text, keyword, symbol,
 use Rattle.castor_parse.specs.Grammar as g
 use Rattle.castor_parse.specs.Grammar.{Separated, last, more, MaybeSeparated, IsCol, IsAlias, IsExpr, IsItem, IsAggregate, IsAgg, IsKey, IsLower, IsUpper, IsRel, AreRels}
 use Rattle.castor_parse.specs.Sizes.{expr_nodes, item_nodes, bound_nodes, all_nodes, nodes}
-use Rattle.castor_parse.specs.Parser.{State, Outcome, Parser, and_then, at, node_limit, tally, first_kind, empty_rel, rel_node, read_item, read_lower, read_upper, aggregated, read_count, read_aggregate, read_agg, falls_by, read_key, read_col, read_alias, read_table_name, read_source, read_scalar, read_rels, read_select, read_filter, read_join, read_binder, read_hash, read_ordered, read_groupby, read_orderby, read_dedup, rel_by, read_rel_by, read_rel, rel_at, expr_at, separated, bracketed, maybe_bracketed}
+use Rattle.castor_parse.specs.Parser.{State, Outcome, Parser, and_then, at, node_limit, tally, first_kind, empty_rel, rel_node, read_item, read_lower, read_upper, aggregated, read_count, read_aggregate, read_agg, falls_by, read_key, read_col, read_alias, read_table_name, read_source, read_scalar, read_rels, read_select, read_filter, read_join, read_binder, read_hash, read_ordered, read_groupby, read_orderby, read_dedup, rel_by, begins_rel, behind_word, read_rel_by, read_rel, rel_at, expr_at, separated, bracketed, maybe_bracketed}
 use Rattle.castor_parse.proofs.Outcomes.{Gives, gives_none, gives_some, weaker, step}
 use Rattle.castor_parse.proofs.NodeLaws as size
 use Rattle.castor_parse.proofs.Readings.{Steps, stepped, Ate, Plain, Read, SoundPlain, Sound, expects_symbol, expects_keyword, eats_symbol, reads_name, node_read, leaf_read, counts, fewer}
@@ -282,6 +282,16 @@ module _ (rel : Parser PRel) (expr : Parser PExpr) (sr : Sound IsRel nodes rel) 
   operator_reads word.Dedup = dedup_reads
   operator_reads k = λ st. gives_none _
 
+  word_reads : (k : Keyword) (ts : Lexemes) (n : ℕ) (b : Bool) → Gives (behind_word rel expr b (rel_by rel expr k) (at (keyword k ∷ ts) n)) (Read IsRel nodes (at (keyword k ∷ ts) n))
+  word_reads k ts n false = gives_none _
+  word_reads k ts n true =
+      step (expects_symbol sign.OpenParen (at ts n)) (λ u s1 opens. weaker _ (operator_reads k s1) (λ x new h. record {
+        tree = h.tree;
+        derived = subst (λ us. IsRel (keyword k ∷ us) h.tree new.rest) (sym opens.rest) h.derived;
+        counted = h.counted ∙ ap (λ m. tally m (nodes h.tree)) opens.nodes;
+        same = h.same;
+      }))
+
   rel_reads_at : (ts : Lexemes) (n : ℕ) → Gives (read_rel rel expr (at ts n)) (Read IsRel nodes (at ts n))
   unfolding read_rel
   rel_reads_at [] n = gives_none _
@@ -289,13 +299,7 @@ module _ (rel : Parser PRel) (expr : Parser PExpr) (sr : Sound IsRel nodes rel) 
   rel_reads_at (int i ∷ ts) n = gives_none _
   rel_reads_at (text z ∷ ts) n = gives_none _
   rel_reads_at (symbol s ∷ ts) n = gives_none _
-  rel_reads_at (keyword k ∷ ts) n =
-      step (expects_symbol sign.OpenParen (at ts n)) (λ u s1 opens. weaker _ (operator_reads k s1) (λ x new h. record {
-        tree = h.tree;
-        derived = subst (λ us. IsRel (keyword k ∷ us) h.tree new.rest) (sym opens.rest) h.derived;
-        counted = h.counted ∙ ap (λ m. tally m (nodes h.tree)) opens.nodes;
-        same = h.same;
-      }))
+  rel_reads_at (keyword k ∷ ts) n = word_reads k ts n (begins_rel k)
 
 pub rel_reads : (n : ℕ) → Sound IsRel nodes (rel_at n)
 unfolding rel_at

@@ -1,11 +1,10 @@
 -- What holds of each part of a parsed file.
-use Rattle.std.specs.Prelude.{◌≡◌, ℕ, Bool, true, false, ◌&&◌, nat_le, is_none, List, [], ◌∷◌, length, slice_index, Option, Some, None}
+use Rattle.std.specs.Prelude.{◌≡◌, ℕ, Bool, true, false, ◌&&◌, nat_le, List, [], ◌∷◌, length, Option, Some, None}
 use Rattle.std.specs.List.{list_all}
 use Rattle.castor_val.specs.declared.value.Ty.{Ty}
 use Rattle.castor_val.specs.declared.value.Ty.TheVariants as ty
 use Rattle.castor_val.specs.declared.value.Value.{Value}
 use Rattle.castor_val.specs.declared.value.Value.TheVariants as value
-use Rattle.castor_parse.specs.declared.cut.Class.TheVariants as class
 use Rattle.castor_parse.specs.declared.tree.Word.{Word}
 use Rattle.castor_parse.specs.declared.tree.Decl.{Decl}
 use Rattle.castor_parse.specs.declared.tree.Decl.TheVariants as decl
@@ -23,12 +22,8 @@ use Rattle.castor_parse.specs.declared.tree.PRel.{PRel, fold-PRel}
 use Rattle.castor_parse.specs.declared.tree.PRel.TheOpen.{PRel-F}
 use Rattle.castor_parse.specs.declared.tree.PRel.TheOpen as r
 use Rattle.castor_parse.specs.declared.tree.File.{File}
-use Rattle.castor_parse.specs.Tokens.{Bytes, begins_word, is_in, keyword_of}
+use Rattle.castor_parse.specs.Tokens.{is_name}
 use Rattle.castor_parse.specs.Parsed.{IsSmall}
-
--- a letter or `_`, and then letters, digits and `_`; no reserved word
-abbrev pub is_name : Bytes → Bool
-is_name z = begins_word (slice_index z 0) && (list_all (is_in class.Word) z && is_none (keyword_of z))
 
 -- a name of at most 64 bytes
 abbrev pub is_word : Word → Bool

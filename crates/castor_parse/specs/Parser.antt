@@ -469,6 +469,23 @@ maybe_bracketed item = do
 unfoldable pub read_table_name : Parser PRel
 read_table_name = read_name >>= (λ w. rel_node (r.Table w))
 
+-- a word that an operator begins with
+abbrev pub begins_rel : Keyword → Bool
+begins_rel word.Scalar = true
+begins_rel word.Cross = true
+begins_rel word.Concat = true
+begins_rel word.Select = true
+begins_rel word.Filter = true
+begins_rel word.Join = true
+begins_rel word.Depjoin = true
+begins_rel word.List = true
+begins_rel word.Hash = true
+begins_rel word.Ordered = true
+begins_rel word.Groupby = true
+begins_rel word.Orderby = true
+begins_rel word.Dedup = true
+begins_rel k = false
+
 -- each rule takes what reads a relation and an expression inside
 module _ (rel : Parser PRel) (expr : Parser PExpr) where
   -- rel "as" NAME ","
@@ -568,9 +585,13 @@ module _ (rel : Parser PRel) (expr : Parser PExpr) where
   rel_by word.Ordered = read_ordered
   rel_by k = unary_by k
 
+  abbrev pub behind_word : Bool → Parser PRel → Parser PRel
+  behind_word true operator = advance >> expect_symbol sign.OpenParen >> operator
+  behind_word false operator = refuse
+
   abbrev pub read_rel_by : Option Kind → Parser PRel
   read_rel_by (Some kind.Name) = read_table_name
-  read_rel_by (Some (kind.Keyword k)) = advance >> expect_symbol sign.OpenParen >> rel_by k
+  read_rel_by (Some (kind.Keyword k)) = behind_word (begins_rel k) (rel_by k)
   read_rel_by _ = refuse
 
   unfoldable pub read_rel : Parser PRel

@@ -149,7 +149,8 @@ fn literal_end(mut z: &[u8]) -> Option<usize>
 
 fn word(z: &[u8]) -> Piece
     requires some { 0 < length z.now }
-    requires begins { spec.is_in Class.Word (slice_index z.now 0) ≡ true }
+    requires begins { spec.begins_word (slice_index z.now 0) ≡ true }
+    requires goes_on { spec.is_in Class.Word (slice_index z.now 0) ≡ true }
     ensures value { result ≡ Piece.Token (spec.word_kind (spec.keyword_of (take (spec.run Class.Word z.now) z.now))) (spec.run Class.Word z.now) }
     ensures within { IsWithin z.now result }
     ensures stands { StandsInFront z.now result }

@@ -1,7 +1,8 @@
 //! Parses query files.
 
 ghost use Rattle.std.specs.Prelude.{◌≡◌, map, length, true, All, IfOk, IfErr, IsUtf8};
-ghost use Rattle.castor_parse.specs.Cut.{Stands};
+ghost use Rattle.castor_parse.specs.Cut.{Stands, AreSpansInOrder};
+ghost use Rattle.castor_parse.specs.Formed.{IsFormed};
 ghost use Rattle.castor_parse.specs.Lexemes.{lexemes};
 ghost use Rattle.castor_parse.specs.Limits.{are_within_limits};
 ghost use Rattle.castor_parse.specs.Parsed.{IsParsed, IsRefused, IsRead, IsUnread, IsSmallFile, IsLarge, HasOneTree};
@@ -98,6 +99,7 @@ fn file(alloc: Global, text: &str, tokens: &[Token]) -> Result<File, ParseError>
     requires stand { All (Stands text.now) tokens.now }
     requires within { are_within_limits (lexemes text.now tokens.now) ≡ true }
     ensures ok { IfOk result (IsRead text.now tokens.now) }
+    ensures formed { IfOk result IsFormed }
     ensures err { IfErr result (IsUnread text.now tokens.now) }
 {
     let mut parser = Parser::new(alloc, text, tokens);
@@ -122,6 +124,8 @@ fn file(alloc: Global, text: &str, tokens: &[Token]) -> Result<File, ParseError>
 /// or a depth over 64.
 pub fn parse(alloc: Global, text: &[u8]) -> Result<File, ParseError>
     ensures ok { IfOk result (IsParsed text.now) }
+    ensures formed { IfOk result IsFormed }
+    ensures order { IfOk result (λ file. AreSpansInOrder 0 (length text.now) file.tokens) }
     ensures err { IfErr result (IsRefused text.now) }
 
     // No other tree is derived from the tokens of a text.

@@ -19,6 +19,28 @@ pub fn only<T: Drop>(alloc: Global, item: T) -> Result<Items<T>, AllocError>
     Ok(all)
 }
 
+/// Whether an operator begins with this word.
+fn begins_rel(keyword: Keyword) -> bool
+    ensures { result ≡ spec.begins_rel keyword }
+{
+    match keyword {
+        Keyword::Scalar
+        | Keyword::Cross
+        | Keyword::Concat
+        | Keyword::Select
+        | Keyword::Filter
+        | Keyword::Join
+        | Keyword::Depjoin
+        | Keyword::List
+        | Keyword::Hash
+        | Keyword::Ordered
+        | Keyword::Groupby
+        | Keyword::Orderby
+        | Keyword::Dedup => true,
+        _ => false,
+    }
+}
+
 /// One or more of what `$item` reads, with commas between.
 macro_rules! separated {
     ($parser:ident, $item:expr) => {{
@@ -400,6 +422,9 @@ impl<'a> Parser<'a> {
         match self.peek() {
             Some(Kind::Name) => self.table(),
             Some(Kind::Keyword(keyword)) => {
+                if !begins_rel(keyword) {
+                    return Err(Stop::Syntax);
+                }
                 self.advance();
                 self.expect_symbol(Symbol::OpenParen)?;
                 self.operator(depth - 1, keyword)

@@ -54,3 +54,12 @@ one_above ks = fold (λ above k. max above (k + 1)) 0 ks
 -- one above all scope numbers that occur, and none where the greatest number there is occurs
 abbrev pub fresh_scope : Rel → Option ℕ
 fresh_scope q = if list_any (λ k. k == 4294967295) (scope_numbers q) then None else Some (one_above (scope_numbers q))
+
+-- a number above another scope number too, and none where that is the greatest number there is
+abbrev pub raised : Option ℕ → ℕ → Option ℕ
+raised None k = None
+raised (Some above) k = if k == 4294967295 then None else Some (max above (k + 1))
+
+-- a number above more scope numbers too
+abbrev pub raised_over : Option ℕ → List ℕ → Option ℕ
+raised_over above ks = fold raised above ks

@@ -1,3 +1,4 @@
+pub mod Answers
 pub mod Distinct
 pub mod Expression
 pub mod FreeScopes
@@ -5,6 +6,7 @@ pub mod FreshScope
 pub mod Groups
 pub mod Indexes
 pub mod Meaning
+pub mod Operators
 pub mod Rows
 pub mod Scopes
 pub mod Sizes

@@ -1,14 +1,15 @@
--- The laws of the order of values.
+-- The laws of the order of values and rows.
 use Rattle.std.proofs.Common.{◌≡◌, ℕ, ℤ, pos, List, [], ◌∷◌, Bool, true, false, refl, sym, ap, subst}
 use Rattle.std.specs.declared.cmp.Ordering.{Ordering}
 use Rattle.std.specs.declared.cmp.Ordering.TheVariants.{Less, Equal, Greater}
-use Rattle.std.specs.Ordering.{nat_cmp, int_cmp, bool_cmp, on, then_cmp, ordering_then}
+use Rattle.std.specs.Ordering.{is_eq, nat_cmp, int_cmp, bool_cmp, on, then_cmp, ordering_then}
 use Rattle.std.specs.Cmp.{IsTotalOrder, bool_cmp_total}
 use Rattle.std.specs.Cmp.Lexicographic.{slice_cmp}
-use Rattle.std.proofs.lemmas.Cmp.{then_total, on_total, nat_cmp_total, int_cmp_total, lists_total, ranked, int_ranked}
+use Rattle.std.proofs.lemmas.Cmp.{then_total, on_total, nat_cmp_total, int_cmp_total, lists_total, ranked, int_ranked, tied_itself}
 use Rattle.castor_val.specs.declared.value.Value.{Value}
 use Rattle.castor_val.specs.declared.value.Value.TheVariants as is
-use Rattle.castor_val.specs.Values.{class, value_cmp, IsValueOrder}
+use Rattle.castor_val.specs.declared.row.Row.{Row}
+use Rattle.castor_val.specs.Values.{class, value_cmp, row_cmp, same_value, same_row, IsValueOrder, IsRowOrder}
 
 abbrev number : Value → ℤ
 number (is.Int z) = z
@@ -77,3 +78,35 @@ values_tied (is.Text x) (is.Bool y) h = cc
 
 pub value_order : IsValueOrder
 value_order = record { total = subst IsTotalOrder (λ i a b. same a b i) chain_total; tied = values_tied }
+
+row_tied : (v w : Value) (a b : Row) (o : Ordering) → o ≡ value_cmp v w → ordering_then o (row_cmp a b) ≡ Equal → (row_cmp a b ≡ Equal → a ≡ b) → v ∷ a ≡ w ∷ b
+row_tied v w a b Less e h rest = cc
+row_tied v w a b Equal e h rest = let heads : v ≡ w = values_tied v w (sym e) in let tails = rest h in cc
+row_tied v w a b Greater e h rest = cc
+
+pub rows_tied : (a b : Row) → row_cmp a b ≡ Equal → a ≡ b
+rows_tied [] [] h = refl
+rows_tied [] (w ∷ b) h = cc
+rows_tied (v ∷ a) [] h = cc
+rows_tied (v ∷ a) (w ∷ b) h = row_tied v w a b (value_cmp v w) refl h (rows_tied a b)
+
+pub row_order : IsRowOrder
+row_order = record { total = lists_total value_order.total; tied = rows_tied }
+
+equal_from_is_eq : (o : Ordering) → is_eq o ≡ true → o ≡ Equal
+equal_from_is_eq Less e = cc
+equal_from_is_eq Equal e = refl
+equal_from_is_eq Greater e = cc
+
+-- the tests say that values and rows are equal
+pub same_value-refl : (v : Value) → same_value v v ≡ true
+same_value-refl v = ap is_eq (tied_itself value_order.total v)
+
+pub equal_from_same_value : (v w : Value) → same_value v w ≡ true → v ≡ w
+equal_from_same_value v w e = values_tied v w (equal_from_is_eq (value_cmp v w) e)
+
+pub same_row-refl : (a : Row) → same_row a a ≡ true
+same_row-refl a = ap is_eq (tied_itself row_order.total a)
+
+pub equal_from_same_row : (a b : Row) → same_row a b ≡ true → a ≡ b
+equal_from_same_row a b e = rows_tied a b (equal_from_is_eq (row_cmp a b) e)

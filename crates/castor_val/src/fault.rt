@@ -1,7 +1,7 @@
 //! The faults that the evaluation of a query can meet, and sets of them.
 
 ghost use Rattle.std.specs.Prelude.{◌≡◌, ◌↔◌, IsTrue};
-ghost use Rattle.castor_val.specs.Values.{no_faults, union};
+ghost use Rattle.castor_val.specs.Values.{has_fault, no_faults, union};
 
 /// Why an expression or an aggregate has no value.
 #[derive(Clone, Copy, Debug, PartialEq, Eq)]
@@ -51,6 +51,17 @@ impl Faults {
         norows: true,
     };
 
+    /// Whether the set has a fault.
+    pub fn contains(self, fault: Fault) -> bool
+        ensures { result ≡ has_fault self fault }
+    {
+        match fault {
+            Fault::Division => self.division,
+            Fault::Overflow => self.overflow,
+            Fault::NoRows => self.norows,
+        }
+    }
+
     /// The faults that are in either set.
     pub fn union(self, more: Faults) -> Faults
         ensures { result ≡ union self more }
@@ -67,5 +78,20 @@ impl Faults {
         ensures { IsTrue result ↔ (self ≡ no_faults) }
     {
         !(self.division || self.overflow || self.norows)
+    }
+}
+
+/// The set of a fault alone.
+impl From<Fault> for Faults {
+    ghost use Rattle.castor_val.specs.Values.{fault_set};
+
+    ghost from_gives = { λ fault set. set ≡ fault_set fault };
+
+    fn from(fault: Fault) -> Faults {
+        match fault {
+            Fault::Division => Faults::DIVISION,
+            Fault::Overflow => Faults::OVERFLOW,
+            Fault::NoRows => Faults::NOROWS,
+        }
     }
 }

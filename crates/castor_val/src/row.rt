@@ -1,9 +1,10 @@
 //! Rows of values.
 
-ghost use Rattle.std.specs.Prelude.{◌≡◌, IfOk, OnOk, OnErr, Some, [], ◌∷◌, ◌++◌, length};
+ghost use Rattle.std.specs.Prelude.{◌≡◌, ◌↔◌, IsTrue, IfOk, OnOk, OnErr, [], ◌∷◌, ◌++◌, length, map};
+ghost use Rattle.castor_val.specs.Values.{value_of};
 
 use crate::memory::Memory;
-use crate::value::Value;
+use crate::value::{Cell, Value};
 use std::alloc::Global;
 use std::marker::Model;
 
@@ -61,6 +62,13 @@ impl Row {
         self.values.len()
     }
 
+    /// Whether the row has no values.
+    pub fn is_empty(&self) -> bool
+        ensures { IsTrue result ↔ (self.now ≡ []) }
+    {
+        self.values.is_empty()
+    }
+
     /// Puts a value at the end. After a refusal the row is unchanged.
     pub fn push(&mut self, value: Value) -> Result<(), Memory>
         ensures ok { OnOk result (self.new ≡ self.old ++ value ∷ []) }
@@ -89,5 +97,28 @@ impl Row {
             values.push(value.copy(alloc)?)?;
         }
         Ok(Row { values })
+    }
+
+    /// The row of the values that cells borrow. Linear in their number and in the bytes of their
+    /// texts.
+    pub fn from_cells(alloc: Global, cells: &[Cell]) -> Result<Row, Memory>
+        ensures { IfOk result (λ r. r ≡ map value_of cells.now) }
+    {
+        let mut values = Vec::new(alloc);
+        for cell in cells {
+            values.push(cell.to_value(alloc)?)?;
+        }
+        Ok(Row { values })
+    }
+
+    /// The values of the row, borrowed one by one. Linear in their number.
+    pub fn cells(&self, alloc: Global) -> Result<Vec<Cell<'_>>, Memory>
+        ensures { IfOk result (λ cells. map value_of cells.items ≡ self.now) }
+    {
+        let mut cells = Vec::new(alloc);
+        for value in self.values.as_slice() {
+            cells.push(value.cell())?;
+        }
+        Ok(cells)
     }
 }

@@ -1,6 +1,6 @@
 //! Tables of rows.
 
-ghost use Rattle.std.specs.Prelude.{◌≡◌, IfOk, OnOk, OnErr, [], ◌∷◌, ◌++◌, length};
+ghost use Rattle.std.specs.Prelude.{◌≡◌, ◌↔◌, IsTrue, IfOk, OnOk, OnErr, [], ◌∷◌, ◌++◌, length};
 
 use crate::memory::Memory;
 use crate::row::Row;
@@ -59,6 +59,13 @@ impl Table {
         ensures { result ≡ length self.now }
     {
         self.rows.len()
+    }
+
+    /// Whether the table has no rows.
+    pub fn is_empty(&self) -> bool
+        ensures { IsTrue result ↔ (self.now ≡ []) }
+    {
+        self.rows.is_empty()
     }
 
     /// Puts a row at the end. After a refusal the table is unchanged.

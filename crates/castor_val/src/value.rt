@@ -1,12 +1,11 @@
 //! Values, which own their texts, and cells, which borrow them.
 
-ghost use Rattle.std.specs.Prelude.{◌≡◌, ◌↔◌, IsTrue, IfOk};
-ghost use Rattle.castor_val.specs.Values.{IsValueOrder, type_of_value, value_of, value_cmp};
+ghost use Rattle.std.specs.Prelude.{◌≡◌, IfOk};
+ghost use Rattle.castor_val.specs.Values.{type_of_value, value_of};
 
 use crate::memory::Memory;
 use crate::text::Text;
 use std::alloc::Global;
-use std::cmp::Ordering;
 
 /// The type of a column or a parameter.
 #[derive(Clone, Copy, Debug, PartialEq, Eq)]
@@ -92,19 +91,4 @@ impl<'a> Cell<'a> {
             Cell::Text(_) => Ty::Text,
         }
     }
-}
-
-/// How two values are ordered.
-pub fn compare(a: Cell, b: Cell) -> Ordering
-    ensures value { result ≡ value_cmp (value_of a.entry) (value_of b.entry) }
-    ensures law { IsValueOrder }
-{
-    a.cmp(&b)
-}
-
-/// Whether two cells hold one value.
-pub fn is_same(a: Cell, b: Cell) -> bool
-    ensures { IsTrue result ↔ (value_of a.entry ≡ value_of b.entry) }
-{
-    a == b
 }

@@ -1,0 +1,4 @@
+pub mod ExprInduction
+pub mod FreshLaws
+pub mod OperandLaws
+pub mod RelInduction

@@ -49,11 +49,13 @@ unfoldable pub item_column : List Scope → List NamedColumn → ℕ → Option 
 item_column scopes columns number (Some word) found = column_called word.text found.ty
 item_column scopes columns number None found = bare_column scopes columns number found.ty (out-Expr found.expr)
 
+-- an expression with the column that it puts out
+unfoldable pub output_of : List Scope → List NamedColumn → ℕ → Option Word → Typed → Result Output SchemaError
+output_of scopes columns number name found = Ok (record { expr = found.expr; column = item_column scopes columns number name found })
+
 -- an item under its number
 unfoldable pub item_output : Declarations → List Scope → List NamedColumn → ℕ → Item → Result Output SchemaError
-item_output known scopes columns number item =
-    and_then (expression item.expr known scopes columns) (λ found.
-    Ok (record { expr = found.expr; column = item_column scopes columns number item.name found }))
+item_output known scopes columns number item = and_then (expression item.expr known scopes columns) (λ found. output_of scopes columns number item.name found)
 
 -- one more item
 abbrev pub with_item : Declarations → List Scope → List NamedColumn → Selection → Item → Result Selection SchemaError

@@ -7,6 +7,7 @@ use Rattle.std.specs.Str.{bytes_eq}
 use Rattle.castor_val.specs.declared.value.Ty.{Ty}
 use Rattle.castor_val.specs.declared.value.Ty.TheVariants.{Bool as Truth}
 use Rattle.castor_alg.specs.declared.expr.Expr.{Expr}
+use Rattle.castor_alg.specs.declared.rel.Agg.{Agg}
 use Rattle.castor_alg.specs.declared.rel.Bound.TheVariants as bound
 use Rattle.castor_alg.specs.declared.rel.Key.{Key}
 use Rattle.castor_alg.specs.declared.rel.Rel.{Rel}
@@ -50,11 +51,13 @@ table_found tables next name =
     ok_or (option_and_then (λ number. option_map (λ (t : Declared). record { query = core.Table number; columns = columns_of_table t; next = next }) (slice_get tables number))
       (position (λ (t : Declared). bytes_eq t.name name) tables)) UnknownTable
 
+-- `scalar` has the column of its item
+unfoldable pub scalar_of : ℕ → Output → Result Found SchemaError
+scalar_of next output = Ok (record { query = core.Scalar output.expr; columns = output.column ∷ []; next = next })
+
 -- `scalar`: one item, which reads no columns
 unfoldable pub scalar_found : Declarations → List Scope → ℕ → Item → Result Found SchemaError
-scalar_found known scopes next item =
-    and_then (item_output known scopes [] 0 item) (λ (output : Output).
-    Ok (record { query = core.Scalar output.expr; columns = output.column ∷ []; next = next }))
+scalar_found known scopes next item = and_then (item_output known scopes [] 0 item) (λ output. scalar_of next output)
 
 -- `select`: the items over the operand's columns
 unfoldable pub selected : Declarations → List Scope → List Item → Found → Result Found SchemaError
@@ -62,12 +65,15 @@ selected known scopes items from =
     and_then (items_selected known scopes from.columns items) (λ (all : Selection).
     limited (core.Select all.exprs from.query) all.columns from.next)
 
--- `filter`: a bool over the operand's columns
-unfoldable pub filtered : Declarations → List Scope → PExpr → Found → Result Found SchemaError
-filtered known scopes e from =
-    and_then (expression e known scopes from.columns) (λ (test : Typed).
+-- `filter` takes a bool, and keeps its operand's columns
+unfoldable pub filtered_by : Found → Typed → Result Found SchemaError
+filtered_by from test =
     if same_type test.ty Truth then Ok (record { query = core.Filter test.expr from.query; columns = from.columns; next = from.next })
-    else Err TypeMismatch)
+    else Err TypeMismatch
+
+-- `filter`: an expression over the operand's columns
+unfoldable pub filtered : Declarations → List Scope → PExpr → Found → Result Found SchemaError
+filtered known scopes e from = and_then (expression e known scopes from.columns) (λ test. filtered_by from test)
 
 -- `join`: a bool over the columns of both operands
 unfoldable pub joined : Declarations → List Scope → PExpr → Found → Found → Result Found SchemaError
@@ -76,10 +82,16 @@ joined known scopes e left right =
     if same_type test.ty Truth then limited (core.Join test.expr left.query right.query) (left.columns ++ right.columns) right.next
     else Err TypeMismatch)
 
+-- there is no key and no aggregate
+abbrev pub is_no_grouping : List ℕ → List Agg → Bool
+is_no_grouping [] [] = true
+is_no_grouping [] (agg ∷ aggs) = false
+is_no_grouping (key ∷ keys) aggs = false
+
 -- `groupby`: a key or an aggregate, and sums of ints
 unfoldable pub grouped_by : Found → Grouping → Result Found SchemaError
 grouped_by from found =
-    if length found.keys == 0 && length found.aggs == 0 then Err WrongCount
+    if is_no_grouping found.keys found.aggs then Err WrongCount
     else (if list_all (sums_ints from.columns) found.aggs then limited (core.Group found.keys found.aggs from.query) found.columns from.next
     else Err TypeMismatch)
 
@@ -153,12 +165,19 @@ ranged binding lower upper (c ∷ d ∷ more) = Err WrongCount
 abbrev pub Finding : Type 0
 Finding = Declarations → List Scope → ℕ → Result Found SchemaError
 
+-- the scope of a binder, bound to the rows of its source
+abbrev pub scope_over : ℕ → List ℕ → Found → Scope
+scope_over number name from = record { number = number; name = name; columns = from.columns }
+
+-- a binder of a scope, over its source and its body
+unfoldable pub binding_of : Scope → Rel → Found → Result Binding SchemaError
+binding_of scope source body = Ok (record { number = scope.number; source = source; columns = scope.columns; body = body })
+
 -- a binder takes the next number; its scope is in force in its body alone
 unfoldable pub bound_by : Finding → Finding → List ℕ → Declarations → List Scope → ℕ → Result Binding SchemaError
 bound_by r s name known scopes next =
     and_then (r known scopes (next + 1)) (λ (from : Found).
-    and_then (s known (record { number = next; name = name; columns = from.columns } ∷ scopes) from.next) (λ (body : Found).
-    Ok (record { number = next; source = from.query; columns = from.columns; body = body })))
+    and_then (s known (scope_over next name from ∷ scopes) from.next) (λ body. binding_of (scope_over next name from) from.query body))
 
 -- one more operand of a `cross`
 unfoldable pub with_crossed : Declarations → List Scope → Crossing → Finding → Result Crossing SchemaError
@@ -172,9 +191,17 @@ with_operand known scopes found r =
     and_then (r known scopes found.next) (λ (more : Found).
     Ok (record { queries = found.queries ++ more.query ∷ []; columns = found.columns ++ more.columns ∷ []; next = more.next }))
 
--- `depjoin` and `list` have the columns of their body
-abbrev pub dependent : (ℕ → Rel → Rel → Rel) → Binding → Found
-dependent operator binding = record { query = operator binding.number binding.source binding.body.query; columns = binding.body.columns; next = binding.body.next }
+-- `depjoin` has the columns of its body
+unfoldable pub depjoined : Binding → Result Found SchemaError
+depjoined binding = Ok (record { query = core.DepJoin binding.number binding.source binding.body.query; columns = binding.body.columns; next = binding.body.next })
+
+-- `list` has the columns of its body
+unfoldable pub listed : Binding → Result Found SchemaError
+listed binding = Ok (record { query = core.List binding.number binding.source binding.body.query; columns = binding.body.columns; next = binding.body.next })
+
+-- `dedup` keeps its operand's columns
+unfoldable pub deduped : Found → Result Found SchemaError
+deduped from = Ok (record { query = core.Dedup from.query; columns = from.columns; next = from.next })
 
 -- one operator
 abbrev pub relation_step : PRel-F Finding → Finding
@@ -190,8 +217,8 @@ relation_step (rel.Filter e r) known scopes next = and_then (r known scopes next
 relation_step (rel.Join e r s) known scopes next =
     and_then (r known scopes next) (λ (left : Found).
     and_then (s known scopes left.next) (λ right. joined known scopes e left right))
-relation_step (rel.DepJoin word r s) known scopes next = and_then (bound_by r s word.text known scopes next) (λ binding. Ok (dependent core.DepJoin binding))
-relation_step (rel.List word r s) known scopes next = and_then (bound_by r s word.text known scopes next) (λ binding. Ok (dependent core.List binding))
+relation_step (rel.DepJoin word r s) known scopes next = and_then (bound_by r s word.text known scopes next) (λ binding. depjoined binding)
+relation_step (rel.List word r s) known scopes next = and_then (bound_by r s word.text known scopes next) (λ binding. listed binding)
 relation_step (rel.Hash word r s es) known scopes next =
     and_then (bound_by r s word.text known scopes next) (λ binding.
     and_then (index_keys known scopes es) (λ keys. hashed binding keys))
@@ -205,9 +232,7 @@ relation_step (rel.Group keys aggs r) known scopes next =
 relation_step (rel.Order keys r) known scopes next =
     and_then (r known scopes next) (λ (from : Found).
     and_then (sorting_keys from.columns keys) (λ found. ordered_by from found))
-relation_step (rel.Dedup r) known scopes next =
-    and_then (r known scopes next) (λ (from : Found).
-    Ok (record { query = core.Dedup from.query; columns = from.columns; next = from.next }))
+relation_step (rel.Dedup r) known scopes next = and_then (r known scopes next) (λ from. deduped from)
 
 -- what a relation of names means
 abbrev pub relation : PRel → Finding

@@ -38,6 +38,7 @@ fn is_table_name(tables: &[Declared], name: &Text) -> bool
     tables.iter().any(|t| is_same(&t.name, name))
 }
 
+#[tactic(auto, unfolding(crate::specs::Declarations::with_column))]
 fn columns_declared(alloc: Global, columns: &[(Word, Ty)]) -> Result<Items<Column>, SchemaError>
     ensures { Gives (λ columns. columns) error.Memory (columns_declared columns.now) result }
 {

@@ -27,7 +27,7 @@ pub struct IndexKeys {
 }
 
 /// The keys of a hash index, or the first refusal. They read no columns.
-#[tactic(auto, unfolding(crate::specs::Relations::index_keys))]
+#[tactic(auto, unfolding(crate::specs::Relations::index_keys, crate::specs::Relations::with_index_key))]
 pub fn index_keys(
     alloc: Global,
     known: &Declarations,

@@ -3,7 +3,7 @@
 ghost use Rattle.std.specs.Prelude.{◌≡◌, IfOk};
 ghost use Rattle.castor_val.specs.Gives.{Gives};
 ghost use Rattle.castor_alg.specs.declared.expr.Expr.{out-Expr};
-ghost use Rattle.castor_schema.specs.Outputs.{bare_column, item_column, item_output, items_selected, kept_column, unqualified_column};
+ghost use Rattle.castor_schema.specs.Outputs.{bare_column, item_column, item_output, items_selected, kept_column, output_of, unqualified_column};
 ghost use Rattle.castor_schema.specs.Scopes.{scopes_of};
 ghost use Rattle.castor_schema.specs.declared.error.SchemaError.TheVariants as error;
 
@@ -99,6 +99,24 @@ fn item_column(
     }
 }
 
+#[tactic(auto, unfolding(crate::specs::Outputs::output_of))]
+fn output_of(
+    alloc: Global,
+    scopes: &Scopes<'_>,
+    columns: &[NamedColumn],
+    number: usize,
+    name: &Option<Word>,
+    found: Typed,
+) -> Result<Output, SchemaError>
+    ensures { Gives (λ output. output) error.Memory (output_of (scopes_of scopes.now) columns.now number name.now found) result }
+{
+    let column = item_column(alloc, scopes, columns, number, name, &found)?;
+    Ok(Output {
+        expr: found.expr,
+        column,
+    })
+}
+
 /// An item under its number in the output, from 0, over the columns of a row, or the first refusal.
 #[tactic(auto, unfolding(crate::specs::Outputs::item_output))]
 pub fn item_output(
@@ -112,11 +130,7 @@ pub fn item_output(
     ensures { Gives (λ output. output) error.Memory (item_output known.now (scopes_of scopes.now) columns.now number item.now) result }
 {
     let found = expression(alloc, known, scopes, columns, &item.expr)?;
-    let column = item_column(alloc, scopes, columns, number, &item.name, &found)?;
-    Ok(Output {
-        expr: found.expr,
-        column,
-    })
+    output_of(alloc, scopes, columns, number, &item.name, found)
 }
 
 /// Items over the columns of a row, or the first refusal.

@@ -1,12 +1,11 @@
 //! The operators of relations over operands that are found: their lists and expressions, and then their
 //! own conditions.
 
-ghost use Rattle.std.specs.Prelude.{◌≡◌, Ok, position};
+ghost use Rattle.std.specs.Prelude.{◌≡◌, position};
 ghost use Rattle.std.specs.Str.{bytes_eq};
 ghost use Rattle.castor_schema.specs.declared.checked.Declared.{Declared};
 ghost use Rattle.castor_val.specs.Gives.{Gives};
-ghost use Rattle.castor_alg.specs.declared.rel.Rel.{DepJoin, List as StoredList};
-ghost use Rattle.castor_schema.specs.Relations.{concatenated, dependent, filtered, first_columns, grouped_by, hashed, joined, limited, ordered_by, ranged, same_column_types, same_widths, scalar_found, selected, table_found};
+ghost use Rattle.castor_schema.specs.Relations.{concatenated, deduped, depjoined, filtered, filtered_by, first_columns, grouped_by, hashed, is_no_grouping, joined, limited, listed, ordered_by, ranged, same_column_types, same_widths, scalar_found, scalar_of, selected, table_found};
 ghost use Rattle.castor_schema.specs.Scopes.{scopes_of};
 ghost use Rattle.castor_schema.specs.declared.error.SchemaError.TheVariants as error;
 
@@ -15,16 +14,16 @@ use crate::checked::Declared;
 use crate::column::{NamedColumn, columns_of_table};
 use crate::declarations::{Declarations, MOST_COLUMNS};
 use crate::error::SchemaError;
-use crate::expression::expression;
+use crate::expression::{Typed, expression};
 use crate::found::Found;
 use crate::groups::{Grouping, all_sum_ints};
 use crate::indexes::{IndexKeys, is_key_count};
-use crate::items::{item_output, items_selected};
+use crate::items::{Output, item_output, items_selected};
 use crate::names::{is_same, number_of};
 use crate::relation::{Binding, Operands};
 use crate::scopes::Scopes;
 use crate::types::{have_same_types, have_types, is_same_type};
-use castor_alg::{Key, Rel};
+use castor_alg::{Agg, Key, Rel};
 use castor_parse::{Item, PExpr};
 use castor_val::{Text, Ty};
 use sqlite_items::{Boxed, Items, at};
@@ -77,6 +76,19 @@ pub fn table_found(
     }
 }
 
+#[tactic(auto, unfolding(crate::specs::Relations::scalar_of))]
+fn scalar_of(alloc: Global, next: u32, output: Output) -> Result<Found, SchemaError>
+    ensures { Gives (λ found. found) error.Memory (scalar_of next output) result }
+{
+    let mut columns = Items::new(alloc);
+    columns.push(output.column)?;
+    Ok(Found {
+        query: Rel::Scalar(output.expr),
+        columns,
+        next,
+    })
+}
+
 /// `scalar`: one item, which reads no columns.
 #[tactic(auto, unfolding(crate::specs::Relations::scalar_found))]
 pub fn scalar_found(
@@ -89,13 +101,7 @@ pub fn scalar_found(
     ensures { Gives (λ found. found) error.Memory (scalar_found known.now (scopes_of scopes.now) next item.now) result }
 {
     let output = item_output(alloc, known, scopes, &[], 0, item)?;
-    let mut columns = Items::new(alloc);
-    columns.push(output.column)?;
-    Ok(Found {
-        query: Rel::Scalar(output.expr),
-        columns,
-        next,
-    })
+    scalar_of(alloc, next, output)
 }
 
 /// `select`: items over the operand's columns.
@@ -114,6 +120,21 @@ pub fn selected(
     limited(Rel::Select(all.exprs, operand), all.columns, from.next)
 }
 
+#[tactic(auto, unfolding(crate::specs::Relations::filtered_by))]
+fn filtered_by(alloc: Global, from: Found, test: Typed) -> Result<Found, SchemaError>
+    ensures { Gives (λ found. found) error.Memory (filtered_by from test) result }
+{
+    if !is_same_type(test.ty, Ty::Bool) {
+        return Err(SchemaError::TypeMismatch);
+    }
+    let operand = Boxed::new(alloc, from.query)?;
+    Ok(Found {
+        query: Rel::Filter(test.expr, operand),
+        columns: from.columns,
+        next: from.next,
+    })
+}
+
 /// `filter`: a bool over the operand's columns.
 #[tactic(auto, unfolding(crate::specs::Relations::filtered))]
 pub fn filtered(
@@ -126,15 +147,7 @@ pub fn filtered(
     ensures { Gives (λ found. found) error.Memory (filtered known.now (scopes_of scopes.now) e.now from) result }
 {
     let test = expression(alloc, known, scopes, from.columns.as_slice(), e)?;
-    if !is_same_type(test.ty, Ty::Bool) {
-        return Err(SchemaError::TypeMismatch);
-    }
-    let operand = Boxed::new(alloc, from.query)?;
-    Ok(Found {
-        query: Rel::Filter(test.expr, operand),
-        columns: from.columns,
-        next: from.next,
-    })
+    filtered_by(alloc, from, test)
 }
 
 /// `join`: a bool over the columns of both operands.
@@ -160,12 +173,21 @@ pub fn joined(
     limited(Rel::Join(test.expr, first, second), columns, right.next)
 }
 
+fn is_no_grouping(keys: &[u32], aggs: &[Agg]) -> bool
+    ensures { result ≡ is_no_grouping keys.now aggs.now }
+{
+    match keys {
+        [] => aggs.is_empty(),
+        [_, ..] => false,
+    }
+}
+
 /// `groupby`: a key or an aggregate, and sums of ints.
 #[tactic(auto, unfolding(crate::specs::Relations::grouped_by))]
 pub fn grouped_by(alloc: Global, from: Found, found: Grouping) -> Result<Found, SchemaError>
     ensures { Gives (λ found. found) error.Memory (grouped_by from found) result }
 {
-    if found.keys.len() == 0 && found.aggs.len() == 0 {
+    if is_no_grouping(found.keys.as_slice(), found.aggs.as_slice()) {
         return Err(SchemaError::WrongCount);
     }
     if !all_sum_ints(from.columns.as_slice(), found.aggs.as_slice()) {
@@ -239,8 +261,9 @@ pub fn concatenated(alloc: Global, all: Operands) -> Result<Found, SchemaError>
 }
 
 /// `depjoin`: the columns of the body.
+#[tactic(auto, unfolding(crate::specs::Relations::depjoined))]
 pub fn depjoined(alloc: Global, binding: Binding) -> Result<Found, SchemaError>
-    ensures { Gives (λ found. found) error.Memory (Ok (dependent DepJoin binding)) result }
+    ensures { Gives (λ found. found) error.Memory (depjoined binding) result }
 {
     let inner = binding.body;
     let source = Boxed::new(alloc, binding.source)?;
@@ -253,8 +276,9 @@ pub fn depjoined(alloc: Global, binding: Binding) -> Result<Found, SchemaError>
 }
 
 /// `list`: the columns of the body.
+#[tactic(auto, unfolding(crate::specs::Relations::listed))]
 pub fn listed(alloc: Global, binding: Binding) -> Result<Found, SchemaError>
-    ensures { Gives (λ found. found) error.Memory (Ok (dependent StoredList binding)) result }
+    ensures { Gives (λ found. found) error.Memory (listed binding) result }
 {
     let inner = binding.body;
     let source = Boxed::new(alloc, binding.source)?;
@@ -263,6 +287,19 @@ pub fn listed(alloc: Global, binding: Binding) -> Result<Found, SchemaError>
         query: Rel::List(binding.number, source, body),
         columns: inner.columns,
         next: inner.next,
+    })
+}
+
+/// `dedup`: the operand's columns.
+#[tactic(auto, unfolding(crate::specs::Relations::deduped))]
+pub fn deduped(alloc: Global, from: Found) -> Result<Found, SchemaError>
+    ensures { Gives (λ found. found) error.Memory (deduped from) result }
+{
+    let operand = Boxed::new(alloc, from.query)?;
+    Ok(Found {
+        query: Rel::Dedup(operand),
+        columns: from.columns,
+        next: from.next,
     })
 }
 

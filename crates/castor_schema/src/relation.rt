@@ -2,7 +2,7 @@
 
 ghost use Rattle.std.specs.Prelude.{◌≡◌, [], map};
 ghost use Rattle.castor_val.specs.Gives.{Gives};
-ghost use Rattle.castor_schema.specs.Relations.{bound_by, relation, with_crossed, with_operand};
+ghost use Rattle.castor_schema.specs.Relations.{binding_of, bound_by, relation, with_crossed, with_operand};
 ghost use Rattle.castor_schema.specs.Scopes.{scopes_of};
 ghost use Rattle.castor_schema.specs.Turns.{in_order};
 ghost use Rattle.castor_schema.specs.declared.error.SchemaError.TheVariants as error;
@@ -15,13 +15,13 @@ use crate::found::Found;
 use crate::groups::{grouping_found, sorting_keys};
 use crate::indexes::index_keys;
 use crate::operators::{
-    concatenated, depjoined, filtered, grouped_by, hashed, joined, limited, listed, ordered_by,
+    concatenated, deduped, depjoined, filtered, grouped_by, hashed, joined, limited, listed, ordered_by,
     ranged, scalar_found, selected, table_found,
 };
 use crate::scopes::{Scope, Scopes};
 use castor_alg::Rel;
 use castor_parse::{PRel, Word};
-use sqlite_items::{Boxed, Items};
+use sqlite_items::Items;
 use std::alloc::Global;
 
 /// The operands of a `cross`: their columns are appended.
@@ -116,14 +116,21 @@ pub fn relation(
         }
         PRel::Dedup(r) => {
             let from = relation(alloc, known, scopes, next, r.get())?;
-            let operand = Boxed::new(alloc, from.query)?;
-            Ok(Found {
-                query: Rel::Dedup(operand),
-                columns: from.columns,
-                next: from.next,
-            })
+            deduped(alloc, from)
         }
     }
+}
+
+#[tactic(auto, unfolding(crate::specs::Relations::binding_of))]
+fn binding_of(scope: Scope, source: Rel, body: Found) -> Result<Binding, SchemaError>
+    ensures { result ≡ binding_of scope source body }
+{
+    Ok(Binding {
+        number: scope.number,
+        source,
+        columns: scope.columns,
+        body,
+    })
 }
 
 /// A binder's source, and its body with the scope in force. A file with 2^32 binders is in no memory.
@@ -150,15 +157,11 @@ fn bound_by(
         columns: from.columns,
     };
     let body = relation(alloc, known, &Scopes::Inner(&scope, scopes), from.next, body)?;
-    Ok(Binding {
-        number: next,
-        source: from.query,
-        columns: scope.columns,
-        body,
-    })
+    binding_of(scope, from.query, body)
 }
 
 #[cycle(relation)]
+#[tactic(auto, unfolding(crate::specs::Relations::with_crossed))]
 fn crossed(
     alloc: Global,
     known: &Declarations,
@@ -183,6 +186,7 @@ fn crossed(
 }
 
 #[cycle(relation)]
+#[tactic(auto, unfolding(crate::specs::Relations::with_operand))]
 fn operands_found(
     alloc: Global,
     known: &Declarations,

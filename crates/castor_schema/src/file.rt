@@ -15,6 +15,13 @@ use std::alloc::Global;
 
 /// What a query file means: its tables, its parameters, the columns of its answer, and its query with
 /// numbers in the place of names; or the first refusal.
+///
+/// Declarations come in their order, then the query. Of a relation come its operands left to right, then
+/// its lists and expressions left to right, then its own conditions: WrongCount, TypeMismatch, TooLarge.
+/// Of an expression come its operands left to right, then itself. Binders are numbered from 0 in preorder.
+///
+/// Linear in the tree times the number of columns and scopes that a name is sought among, which is a scan
+/// over at most 64 columns, or 128 in a `join`. Quadratic in the number of columns of one declaration.
 pub fn check(alloc: Global, file: &File) -> Result<Checked, SchemaError>
     ensures { Gives (λ c. c) error.Memory (checked file.now) result }
 {

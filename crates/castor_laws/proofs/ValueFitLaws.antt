@@ -97,7 +97,7 @@ negated_fits (Text t) = refl
 
 -- arithmetic on ints gives ints
 computed_fits : (f : ℤ → ℤ → Answer) → ((x y : ℤ) → is_int y ≡ true → answer_fits (f x y) ty.Int ≡ true) → (a b : Value) → value_fits a ty.Int ≡ true → value_fits b ty.Int ≡ true → answer_fits (on_ints f a b) ty.Int ≡ true
-computed_fits f holds (Int x) (Int y) left right = holds x y (is_int-same y ∙ right)
+computed_fits f holds (Int x) (Int y) left right = holds x y right
 computed_fits f holds (Int x) (Truth y) left right = cc
 computed_fits f holds (Int x) (Text t) left right = cc
 computed_fits f holds (Truth x) b left right = cc

@@ -2,25 +2,12 @@
 # Loads a table of 1,000,000 rows of an int, a text and an int, and prints the best of three runs:
 # the seconds, the bytes a second, the peak memory as a multiple of the file's size, and how the
 # seconds compare with those of Python's csv module, which reads the same file into rows of the same types.
-#
-# It wants the program castor: that of crates/castor/out, or the one that $CASTOR names.
 set -eu
 
 rows=1000000
-castor=${CASTOR:-$(cd "$(dirname "$0")/.." && pwd)/crates/castor/out/castor}
-if [ ! -x "$castor" ]; then
-    echo "load: no program at $castor; build it with rt ci, or name one in CASTOR" >&2
-    exit 1
-fi
-castor=$(realpath "$castor")
-folder=$(mktemp -d)
-trap 'rm -rf "$folder"' EXIT
-cd "$folder"
+. "$(dirname "${BASH_SOURCE[0]}")/common.sh"
 
-awk -v rows=$rows 'BEGIN {
-    print "id,cust,total"
-    for (i = 0; i < rows; i++) printf "%d,customer %d,%d\n", i, i * 7919 % 10007, i * 37 % 1000
-}' >orders.csv
+orders $rows >orders.csv
 # With no question lines the table is loaded and nothing is asked of it.
 echo 'table orders (id int, cust text, total int); param c text; query filter(cust = $c, orders)' >orders.query
 echo 'finish;' >finish.script
@@ -39,18 +26,6 @@ load_castor() {
 
 load_python() {
     python3 peer.py
-}
-
-# The seconds of the fastest of three runs.
-best_of_three() {
-    local best= start end
-    for _ in 1 2 3; do
-        start=$(date +%s%N)
-        "$1"
-        end=$(date +%s%N)
-        if [ -z "$best" ] || [ $((end - start)) -lt "$best" ]; then best=$((end - start)); fi
-    done
-    awk -v ns="$best" 'BEGIN { printf "%.3f", ns / 1e9 }'
 }
 
 size=$(wc -c <orders.csv)

@@ -2,26 +2,13 @@
 # Answers 200 question lines over a table of 100,000 rows by a filter, and prints the best of three
 # runs: the seconds, the rows that are looked at a second, and how the seconds compare with those of
 # the same scans by sqlite3 without an index, over the same rows in memory.
-#
-# It wants the program castor: that of crates/castor/out, or the one that $CASTOR names.
 set -eu
 
 rows=100000
 lines=200
-castor=${CASTOR:-$(cd "$(dirname "$0")/.." && pwd)/crates/castor/out/castor}
-if [ ! -x "$castor" ]; then
-    echo "scan: no program at $castor; build it with rt ci, or name one in CASTOR" >&2
-    exit 1
-fi
-castor=$(realpath "$castor")
-folder=$(mktemp -d)
-trap 'rm -rf "$folder"' EXIT
-cd "$folder"
+. "$(dirname "${BASH_SOURCE[0]}")/common.sh"
 
-awk -v rows=$rows 'BEGIN {
-    print "id,cust,total"
-    for (i = 0; i < rows; i++) printf "%d,customer %d,%d\n", i, i * 7919 % 10007, i * 37 % 1000
-}' >orders.csv
+orders $rows >orders.csv
 awk -v lines=$lines 'BEGIN { for (i = 0; i < lines; i++) printf "customer %d\n", i * 101 % 10007 }' >questions
 echo 'table orders (id int, cust text, total int); param c text; query filter(cust = $c, orders)' >scan.query
 echo 'finish;' >finish.script
@@ -37,18 +24,6 @@ ask_castor() {
 
 ask_sqlite() {
     sqlite3 :memory: <peer.sql >sqlite.out
-}
-
-# The seconds of the fastest of three runs.
-best_of_three() {
-    local best= start end
-    for _ in 1 2 3; do
-        start=$(date +%s%N)
-        "$1"
-        end=$(date +%s%N)
-        if [ -z "$best" ] || [ $((end - start)) -lt "$best" ]; then best=$((end - start)); fi
-    done
-    awk -v ns="$best" 'BEGIN { printf "%.3f", ns / 1e9 }'
 }
 
 seconds=$(best_of_three ask_castor)

@@ -1,7 +1,9 @@
-mod Columns
+mod Completeness
 mod Cuts
 mod Ends
+mod OneOutcome
 mod Output
 mod Preparing
+mod Querying
 mod Reading
 mod Tables

@@ -3,25 +3,25 @@ use Rattle.std.proofs.Common.{◌≡◌, ◌⊎◌, ◌∙◌, ℕ, zero, suc, �
 use Rattle.std.specs.List.{slice_get}
 use Rattle.castor_base.specs.Files.{Files, SameFiles}
 use Rattle.castor_val.specs.declared.table.Table.{Table}
-use Rattle.castor_cli.specs.declared.checked.Checked.{Checked}
-use Rattle.castor_cli.specs.declared.checked.Declared.{Declared}
+use Rattle.castor_schema.specs.declared.checked.Checked.{Checked}
+use Rattle.castor_schema.specs.declared.checked.Declared.{Declared}
 use Rattle.castor_cli.specs.declared.preparation.Prepared.{Prepared}
 use Rattle.castor_cli.specs.declared.status.Place.TheVariants as place
 use Rattle.castor_cli.specs.declared.status.ReadFault.TheVariants as fault
 use Rattle.castor_cli.specs.declared.status.Status.{Status}
 use Rattle.castor_cli.specs.declared.status.Status.TheVariants as status
-use Rattle.castor_cli.specs.Causes.{IsDue, IsDueAmong, IsDueLater, IsOfPart, IsRefusal, NamesOneOf, NamesTable, PartRefused, PreparationRefused, RestRefused, RoseWhere, SpeaksOf, TablesRefused, file_of_status, nth_name}
-use Rattle.castor_cli.specs.Preparation.{Broken, after, declared_by, declared_in, prepared, query_in, script_in, tables_in, with_query}
+use Rattle.castor_cli.specs.Causes.{IsDue, IsDueAmong, IsDueLater, IsOfPart, IsRefusal, NamesDeclared, NamesOneOf, NamesTable, PartRefused, PreparationRefused, RestRefused, RoseWhere, SpeaksOf, TablesRefused, file_of_status, nth_name}
+use Rattle.castor_cli.specs.Preparation.{Broken, IsPrepared, IsQueryIn, after, script_in, tables_in, with_query}
 use Rattle.castor_cli.specs.Status.{table_file}
 use Rattle.castor_cli.proofs.Tables.{both_told, if_told, if_told_later, rose_where_up}
 
 -- a refusal that is due with a device failing or not
-abbrev DueIn : {A : Type 0} → Status → Status → (Bool → Result A Status) → Type 0
-DueIn failed s due = (s ≡ status.Memory) ⊎ ((fails : Bool) × (fails ≡ true → s ≡ failed) × (due fails ≡ Err s))
+abbrev DueIn : {A : Type 0} → Status → Status → (Bool → Result A Status → Type 0) → Type 0
+DueIn failed s due = (s ≡ status.Memory) ⊎ ((fails : Bool) × (fails ≡ true → s ≡ failed) × due fails (Err s))
 
 -- ---- the script
 
-script_due : (files : Files) (script : List ℕ) (c : Checked) (s : Status) → DueIn (status.Read place.Script fault.Failed) s (λ fails. script_in fails files script) → IsDueLater (λ broken. with_query broken files script c) s
+script_due : (files : Files) (script : List ℕ) (c : Checked) (s : Status) → DueIn (status.Read place.Script fault.Failed) s (λ fails r. script_in fails files script ≡ r) → IsDueLater (λ broken. with_query broken files script c) s
 script_due files script c s (inl memory) = inl memory
 script_due files script c s (inr (true, blames, is)) = inr (Some place.Script, refl, blames refl, rw is refl)
 script_due files script c s (inr (false, blames, is)) = inr (None, refl, tt, rw is refl)
@@ -40,6 +40,7 @@ script_refusal s of_part = absurd of_part
 
 query_refusal : (s : Status) → IsOfPart place.Query s → IsRefusal s
 query_refusal (status.Read place.Query why) of_part = tt
+query_refusal (status.Query why) of_part = tt
 query_refusal status.NotYet of_part = tt
 query_refusal status.Memory of_part = tt
 query_refusal s of_part = absurd of_part
@@ -52,7 +53,7 @@ table_refusal ds s name names = absurd names
 
 -- the script was refused
 pub rest_at_script : (told told_after : Option Files) (rose : List ℕ → Type 0) (query script : List ℕ) (c : Checked) (s : Status)
-    → PartRefused told told_after (rose script) place.Script (λ fails files. script_in fails files script) s → RestRefused told told_after rose query script c s
+    → PartRefused told told_after (rose script) place.Script (λ fails files r. script_in fails files script ≡ r) s → RestRefused told told_after rose query script c s
 rest_at_script told told_after rose query script c s r = record {
   refusal = script_refusal s r.of_part;
   due = if_told told _ _ (λ files. script_due files script c s) r.due;
@@ -97,41 +98,48 @@ rest_well told later script c all well same rest = both_told told _ _ _ (λ file
 
 -- ---- the query
 
-query_due : (files : Files) (query script : List ℕ) (s : Status) → DueIn (status.Read place.Query fault.Failed) s (λ fails. query_in fails files query) → IsDue (λ broken. prepared broken files query script) s
+query_due : (files : Files) (query script : List ℕ) (s : Status) → DueIn (status.Read place.Query fault.Failed) s (λ fails. IsQueryIn fails files query) → IsDue (λ broken. IsPrepared broken files query script) s
 query_due files query script s (inl memory) = inl memory
-query_due files query script s (inr (true, blames, is)) = inr (Some place.Query, blames refl, rw is refl)
-query_due files query script s (inr (false, blames, is)) = inr (None, tt, rw is refl)
+query_due files query script s (inr (true, blames, is)) = inr (Some place.Query, blames refl, inl is)
+query_due files query script s (inr (false, blames, is)) = inr (None, tt, inl is)
 
-query_names : (ds : List Declared) (s : Status) (name : List ℕ) → IsOfPart place.Query s → NamesTable 0 ds s name
-query_names ds (status.Read place.Query why) name of_part = tt
-query_names ds status.NotYet name of_part = tt
-query_names ds status.Memory name of_part = tt
-query_names ds s name of_part = absurd of_part
+query_names : (files : Files) (query : List ℕ) (s : Status) (name : List ℕ) → IsOfPart place.Query s → NamesDeclared files query s name
+query_names files query (status.Read place.Query why) name of_part = tt
+query_names files query (status.Query why) name of_part = tt
+query_names files query status.NotYet name of_part = tt
+query_names files query status.Memory name of_part = tt
+query_names files query s name of_part = absurd of_part
 
 query_count : (told_after : Option Files) (rose : List ℕ → Type 0) (query script table : List ℕ) (s : Status) → IsOfPart place.Query s → RoseWhere told_after (rose query) s → RoseWhere told_after (rose (file_of_status query script table s)) s
 query_count told_after rose query script table (status.Read place.Query why) of_part count = count
+query_count told_after rose query script table (status.Query why) of_part count = tt
 query_count told_after rose query script table status.NotYet of_part count = tt
 query_count told_after rose query script table status.Memory of_part count = tt
 query_count told_after rose query script table s of_part count = absurd of_part
 
 -- the query was refused
 pub refused_at_query : (told told_after : Option Files) (rose : List ℕ → Type 0) (query script table : List ℕ) (s : Status)
-    → PartRefused told told_after (rose query) place.Query (λ fails files. query_in fails files query) s → PreparationRefused told told_after rose query script s table
+    → PartRefused told told_after (rose query) place.Query (λ fails files. IsQueryIn fails files query) s → PreparationRefused told told_after rose query script s table
 refused_at_query told told_after rose query script table s r = record {
   refusal = query_refusal s r.of_part;
   due = if_told told _ _ (λ files. query_due files query script s) r.due;
-  names = if_told told _ _ (λ files h. query_names (declared_in files query) s table r.of_part) r.due;
+  names = if_told told _ _ (λ files h. query_names files query s table r.of_part) r.due;
   count = query_count told_after rose query script table s r.of_part r.count;
 }
 
 -- ---- what comes after the query
 
-later_due : (files : Files) (query script : List ℕ) (c : Checked) (s : Status) → query_in false files query ≡ Ok c → IsDueLater (λ broken. with_query broken files script c) s → IsDue (λ broken. prepared broken files query script) s
+later_due : (files : Files) (query script : List ℕ) (c : Checked) (s : Status) → IsQueryIn false files query (Ok c) → IsDueLater (λ broken. with_query broken files script c) s → IsDue (λ broken. IsPrepared broken files query script) s
 later_due files query script c s well (inl memory) = inl memory
-later_due files query script c s well (inr (broken, fine, blames, is)) = inr (broken, blames, rw (fine, well) is)
+later_due files query script c s well (inr (broken, fine, blames, is)) = inr (broken, blames, inr (c, subst (λ (fails : Bool). IsQueryIn fails files query (Ok c)) (sym fine) well, is))
 
-later_names : (files : Files) (query : List ℕ) (c : Checked) (s : Status) (table : List ℕ) → query_in false files query ≡ Ok c → NamesTable 0 c.tables s table → NamesTable 0 (declared_in files query) s table
-later_names files query c s table well names = subst (λ (r : Result Checked Status). NamesTable 0 (declared_by r) s table) (sym well) names
+named_by : (ds : List Declared) (i : ℕ) (name : List ℕ) → (k : ℕ) × (i ≡ 0 + k) × (name ≡ nth_name ds k) → name ≡ nth_name ds i
+named_by ds i name (k, is, named) = named ∙ ap (λ n. nth_name ds n) (sym (zero-add k) ∙ sym is)
+
+later_names : (files : Files) (query : List ℕ) (c : Checked) (s : Status) (table : List ℕ) → IsQueryIn false files query (Ok c) → NamesTable 0 c.tables s table → NamesDeclared files query s table
+later_names files query c (status.Read (place.Table i) why) table well names = (c, well, named_by c.tables i table names)
+later_names files query c (status.Table i why) table well names = (c, well, named_by c.tables i table names)
+later_names files query c s table well names = tt
 
 same_name : (ds : List Declared) (i k : ℕ) (a b : List ℕ) → (j : ℕ) × (i ≡ 0 + j) × (a ≡ nth_name ds j) → (j : ℕ) × (i ≡ 0 + j) × (b ≡ nth_name ds j) → a ≡ b
 same_name ds i k a b (j, is, at) (m, it, bt) =
@@ -146,7 +154,7 @@ later_count told_after rose rises query script ds s table up (name, names, count
 
 -- something after the query was refused
 pub refused_later : (told later told_after : Option Files) (rose rises : List ℕ → Type 0) (query script table : List ℕ) (c : Checked) (s : Status)
-    → IfSome told (λ (files : Files). query_in false files query ≡ Ok c) → SameFiles told later → ((name : List ℕ) → rose name → rises name)
+    → IfSome told (λ (files : Files). IsQueryIn false files query (Ok c)) → SameFiles told later → ((name : List ℕ) → rose name → rises name)
     → RestRefused later told_after rose query script c s → NamesTable 0 c.tables s table → PreparationRefused told told_after rises query script s table
 refused_later told later told_after rose rises query script table c s well same up r names = record {
   refusal = r.refusal;
@@ -155,14 +163,11 @@ refused_later told later told_after rose rises query script table c s well same 
   count = later_count told_after rose rises query script c.tables s table up r.speaks names;
 }
 
-prepared_in : (files : Files) (query script : List ℕ) (c : Checked) (p : Prepared) → query_in false files query ≡ Ok c → with_query None files script c ≡ Ok p → prepared None files query script ≡ Ok p
-prepared_in files query script c p well is = rw well is
-
 -- all was made ready
 pub prepared_well : (told later : Option Files) (query script : List ℕ) (c : Checked) (p : Prepared)
-    → IfSome told (λ (files : Files). query_in false files query ≡ Ok c) → SameFiles told later → IfSome later (λ (files : Files). with_query None files script c ≡ Ok p)
-    → IfSome told (λ (files : Files). prepared None files query script ≡ Ok p)
-prepared_well told later query script c p well same rest = both_told told _ _ _ (λ files w h. prepared_in files query script c p w h) well (if_told_later told later _ same rest)
+    → IfSome told (λ (files : Files). IsQueryIn false files query (Ok c)) → SameFiles told later → IfSome later (λ (files : Files). with_query None files script c ≡ Ok p)
+    → IfSome told (λ (files : Files). IsPrepared None files query script (Ok p))
+prepared_well told later query script c p well same rest = both_told told _ _ _ (λ files w h. (c, w, h)) well (if_told_later told later _ same rest)
 
 -- ---- the name of a table by its number
 

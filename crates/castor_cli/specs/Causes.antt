@@ -6,8 +6,8 @@ use Rattle.castor_base.specs.Files.{Files}
 use Rattle.castor_base.specs.declared.failed.ShelfError.{ShelfError}
 use Rattle.castor_base.specs.declared.failed.ShelfError.TheVariants as shelf
 use Rattle.castor_val.specs.declared.table.Table.{Table}
-use Rattle.castor_cli.specs.declared.checked.Checked.{Checked}
-use Rattle.castor_cli.specs.declared.checked.Declared.{Declared}
+use Rattle.castor_schema.specs.declared.checked.Checked.{Checked}
+use Rattle.castor_schema.specs.declared.checked.Declared.{Declared}
 use Rattle.castor_cli.specs.declared.preparation.Prepared.{Prepared}
 use Rattle.castor_cli.specs.declared.preparation.Stop.{Stop}
 use Rattle.castor_cli.specs.declared.status.Place.{Place}
@@ -15,7 +15,7 @@ use Rattle.castor_cli.specs.declared.status.Place.TheVariants as place
 use Rattle.castor_cli.specs.declared.status.ReadFault.TheVariants as fault
 use Rattle.castor_cli.specs.declared.status.Status.{Status}
 use Rattle.castor_cli.specs.declared.status.Status.TheVariants as status
-use Rattle.castor_cli.specs.Preparation.{Broken, declared_in, prepared, query_fails, query_in, readable, script_in, table_in, tables_in, with_query}
+use Rattle.castor_cli.specs.Preparation.{Broken, IsPrepared, IsQueryIn, query_fails, readable, script_in, table_in, tables_in, with_query}
 use Rattle.castor_cli.specs.Status.{table_file}
 
 -- the status of a file that can't be read
@@ -31,8 +31,8 @@ Blames None s = Unit {0}
 Blames (Some p) s = s ≡ status.Read p fault.Failed
 
 -- a status that is what is due, with every device well or with the one that it names failing; or want of memory
-abbrev pub IsDue : {A : Type 0} → (Broken → Result A Status) → Status → Type 0
-IsDue due s = (s ≡ status.Memory) ⊎ ((broken : Broken) × Blames broken s × (due broken ≡ Err s))
+abbrev pub IsDue : {A : Type 0} → (Broken → Result A Status → Type 0) → Status → Type 0
+IsDue due s = (s ≡ status.Memory) ⊎ ((broken : Broken) × Blames broken s × due broken (Err s))
 
 -- the same where the query was read
 abbrev pub IsDueLater : {A : Type 0} → (Broken → Result A Status) → Status → Type 0
@@ -74,15 +74,21 @@ NamesOneOf number ds (status.Table i why) name = (k : ℕ) × (i ≡ number + k)
 NamesOneOf number ds status.Memory name = Unit {0}
 NamesOneOf number ds s name = ⊥
 
+-- the name is that of the table that the status speaks of, among those that the query declares
+abbrev pub NamesDeclared : Files → List ℕ → Status → List ℕ → Type 0
+NamesDeclared files query (status.Read (place.Table i) why) name = (c : Checked) × IsQueryIn false files query (Ok c) × (name ≡ nth_name c.tables i)
+NamesDeclared files query (status.Table i why) name = (c : Checked) × IsQueryIn false files query (Ok c) × (name ≡ nth_name c.tables i)
+NamesDeclared files query s name = Unit {0}
+
 -- the declarations have at most 64 columns each
 abbrev pub AreNarrow : List Declared → Type 0
 AreNarrow ds = All (λ (d : Declared). length d.columns ≤ 64) ds
 
--- one table of at most 64 columns, and one parameter
+-- at most 16 tables of at most 64 columns each, and at most 16 parameters
 pub record IsSmall (c : Checked) : Type 0 where
-  pub tables : length c.tables ≡ 1
+  pub tables : length c.tables ≤ 16
   pub narrow : AreNarrow c.tables
-  pub params : length c.params ≡ 1
+  pub params : length c.params ≤ 16
 
 -- the file is there, with these bytes, within the limit
 abbrev pub Stands : ℕ → List ℕ → Option (List ℕ) → Type 0
@@ -113,6 +119,7 @@ IsOfTable number s = ⊥
 -- the status is want of memory, or speaks of the query or of the script
 abbrev pub IsOfPart : Place → Status → Type 0
 IsOfPart place.Query (status.Read place.Query why) = Unit {0}
+IsOfPart place.Query (status.Query why) = Unit {0}
 IsOfPart place.Query status.NotYet = Unit {0}
 IsOfPart place.Script (status.Read place.Script why) = Unit {0}
 IsOfPart place.Script status.NotYet = Unit {0}
@@ -153,26 +160,27 @@ items_of (Ok bytes) = Ok bytes.items
 items_of (Err s) = Err s
 
 -- a status of the query or the script: it is due by the told files, with the device failing or not, and the count of its file rose where it must have
-pub record PartRefused {A : Type 0} (told told_after : Option Files) (rose : Type 0) (p : Place) (due_in : Bool → Files → Result A Status) (s : Status) : Type 0 where
+pub record PartRefused {A : Type 0} (told told_after : Option Files) (rose : Type 0) (p : Place) (due_in : Bool → Files → Result A Status → Type 0) (s : Status) : Type 0 where
   pub of_part : IsOfPart p s
-  pub due : IfSome told (λ (files : Files). (s ≡ status.Memory) ⊎ ((fails : Bool) × (fails ≡ true → s ≡ status.Read p fault.Failed) × (due_in fails files ≡ Err s)))
+  pub due : IfSome told (λ (files : Files). (s ≡ status.Memory) ⊎ ((fails : Bool) × (fails ≡ true → s ≡ status.Read p fault.Failed) × due_in fails files (Err s)))
   pub count : RoseWhere told_after rose s
 
 -- what reading and checking the script gives
 abbrev pub ReadsScript : Option Files → Option Files → Type 0 → List ℕ → Result (Unit {0}) Status → Type 0
 ReadsScript told told_after rose script (Ok done) = IfSome told (λ (files : Files). script_in false files script ≡ Ok tt)
-ReadsScript told told_after rose script (Err s) = PartRefused told told_after rose place.Script (λ fails files. script_in fails files script) s
+ReadsScript told told_after rose script (Err s) = PartRefused told told_after rose place.Script (λ fails files r. script_in fails files script ≡ r) s
 
 -- what reading and checking the query gives
 abbrev pub ReadsQuery : Option Files → Option Files → Type 0 → List ℕ → Result Checked Status → Type 0
-ReadsQuery told told_after rose query (Ok c) = IfSome told (λ (files : Files). query_in false files query ≡ Ok c)
-ReadsQuery told told_after rose query (Err s) = PartRefused told told_after rose place.Query (λ fails files. query_in fails files query) s
+ReadsQuery told told_after rose query (Ok c) = IfSome told (λ (files : Files). IsQueryIn false files query (Ok c))
+ReadsQuery told told_after rose query (Err s) = PartRefused told told_after rose place.Query (λ fails files. IsQueryIn fails files query) s
 
 -- the status is one of what is made ready before the input is read
 abbrev pub IsRefusal : Status → Type 0
 IsRefusal (status.Read place.Query why) = Unit {0}
 IsRefusal (status.Read place.Script why) = Unit {0}
 IsRefusal (status.Read (place.Table i) why) = Unit {0}
+IsRefusal (status.Query why) = Unit {0}
 IsRefusal (status.Table i why) = Unit {0}
 IsRefusal status.NotYet = Unit {0}
 IsRefusal status.Memory = Unit {0}
@@ -196,11 +204,11 @@ PreparesRest told told_after rose query script c (Err s) = RestRefused told told
 -- a status that ends the preparation
 pub record PreparationRefused (told told_after : Option Files) (rose : List ℕ → Type 0) (query script : List ℕ) (s : Status) (table : List ℕ) : Type 0 where
   pub refusal : IsRefusal s
-  pub due : IfSome told (λ (files : Files). IsDue (λ broken. prepared broken files query script) s)
-  pub names : IfSome told (λ (files : Files). NamesTable 0 (declared_in files query) s table)
+  pub due : IfSome told (λ (files : Files). IsDue (λ broken. IsPrepared broken files query script) s)
+  pub names : IfSome told (λ (files : Files). NamesDeclared files query s table)
   pub count : RoseWhere told_after (rose (file_of_status query script table s)) s
 
 -- what preparing a query, a script and tables gives
 abbrev pub Prepares : Option Files → Option Files → (List ℕ → Type 0) → List ℕ → List ℕ → Result Prepared Stop → Type 0
-Prepares told told_after rose query script (Ok p) = IfSome told (λ (files : Files). prepared None files query script ≡ Ok p)
+Prepares told told_after rose query script (Ok p) = IfSome told (λ (files : Files). IsPrepared None files query script (Ok p))
 Prepares told told_after rose query script (Err stop) = PreparationRefused told told_after rose query script stop.status stop.table

@@ -1,13 +1,16 @@
 pub mod Answers
 pub mod Causes
 pub mod Commands
+pub mod Complete
 pub mod Gives
 pub mod Lines
-pub mod OneForm
 pub mod Outcome
 pub mod Preparation
 pub mod Printing
 pub mod Puts
+pub mod Query
 pub mod Replies
+pub mod Script
+pub mod Served
 pub mod Status
 pub mod Telling

@@ -1,20 +1,20 @@
 -- What is made ready before the input is read, check by check, or the status that the first refusal gives.
-use Rattle.std.specs.Prelude.{ℕ, zero, suc, ◌+◌, ◌&&◌, ◌==◌, List, [], ◌∷◌, Bool, true, false, nat_lt, length, Option, Some, None, Result, Ok, Err, codes, if◌then◌else◌}
+use Rattle.std.specs.Prelude.{◌≡◌, ◌⊎◌, ℕ, zero, suc, ◌+◌, ◌&&◌, ◌==◌, List, [], ◌∷◌, Bool, true, false, nat_lt, length, Option, Some, None, Result, Ok, Err, codes, if◌then◌else◌}
 use Rattle.castor_base.specs.Files.{Files}
 use Rattle.castor_val.specs.declared.table.Table.{Table}
 use Rattle.castor_load.specs.declared.error.LoadError.{LoadError}
 use Rattle.castor_load.specs.Rows.{table_of}
-use Rattle.castor_parse.specs.declared.token.Token.{Token}
 use Rattle.castor_parse.specs.Tokens.{tokens_of}
-use Rattle.castor_cli.specs.declared.checked.Checked.{Checked}
-use Rattle.castor_cli.specs.declared.checked.Declared.{Declared}
+use Rattle.castor_schema.specs.declared.checked.Checked.{Checked}
+use Rattle.castor_schema.specs.declared.checked.Declared.{Declared}
 use Rattle.castor_cli.specs.declared.status.Place.{Place}
 use Rattle.castor_cli.specs.declared.status.Place.TheVariants as place
 use Rattle.castor_cli.specs.declared.status.ReadFault.TheVariants as fault
 use Rattle.castor_cli.specs.declared.status.Status.{Status}
 use Rattle.castor_cli.specs.declared.status.Status.TheVariants as status
 use Rattle.castor_cli.specs.declared.preparation.Prepared.{Prepared}
-use Rattle.castor_cli.specs.OneForm.{is_name, is_spelled, query_in_text}
+use Rattle.castor_cli.specs.Query.{IsQuery}
+use Rattle.castor_cli.specs.Script.{are_finish}
 use Rattle.castor_cli.specs.Status.{table_file}
 
 -- an answer, and then what it is needed for; the first refusal is the refusal of the whole
@@ -51,22 +51,6 @@ text_limit = 1048576
 abbrev pub table_limit : ℕ
 table_limit = 268435456
 
--- the checked query of a text, where it is answered yet
-abbrev pub if_answered : Option Checked → Result Checked Status
-if_answered None = Err status.NotYet
-if_answered (Some c) = Ok c
-
-abbrev pub query_of : List ℕ → Result Checked Status
-query_of text = if_answered (query_in_text text)
-
--- the tokens are the name `finish` and a semicolon
-abbrev pub is_finish : List ℕ → List Token → Bool
-is_finish text ts = (length ts == 2) && is_name text ts 0 && is_spelled text ts 0 (codes "finish") && is_spelled text ts 1 (codes ";")
-
-abbrev pub are_finish : List ℕ → Option (List Token) → Bool
-are_finish text None = false
-are_finish text (Some ts) = is_finish text ts
-
 -- the one script that is built yet: `finish;`
 abbrev pub script_of : List ℕ → Result (Unit {0}) Status
 script_of text = if are_finish text (tokens_of text) then Ok tt else Err status.NotYet
@@ -100,9 +84,14 @@ tables_in failing files i (d ∷ ds) = after (table_in (first_fails failing) fil
 abbrev pub script_in : Bool → Files → List ℕ → Result (Unit {0}) Status
 script_in fails files script = after (readable fails place.Script text_limit (files script)) script_of
 
--- the checked query, by its name
-abbrev pub query_in : Bool → Files → List ℕ → Result Checked Status
-query_in fails files query = after (readable fails place.Query text_limit (files query)) query_of
+-- what a file that can be read says, or that it can't be read
+abbrev pub Says : {A : Type 0} → Result (List ℕ) Status → (List ℕ → Result A Status → Type 0) → Result A Status → Type 0
+Says (Ok text) says r = says text r
+Says (Err why) says r = r ≡ Err why
+
+-- the checked query, by its name, or its refusal
+abbrev pub IsQueryIn : Bool → Files → List ℕ → Result Checked Status → Type 0
+IsQueryIn fails files query r = Says (readable fails place.Query text_limit (files query)) IsQuery r
 
 -- the script, and then the tables, of a checked query
 abbrev pub with_query : Broken → Files → List ℕ → Checked → Result Prepared Status
@@ -110,14 +99,8 @@ with_query broken files script c =
     after (script_in (script_fails broken) files script) (λ done.
     after (tables_in (failing_table broken) files 0 c.tables) (λ ts. Ok (record { checked = c; tables = ts })))
 
--- the query, the script and the tables, each read and then checked, in this order
-abbrev pub prepared : Broken → Files → List ℕ → List ℕ → Result Prepared Status
-prepared broken files query script = after (query_in (query_fails broken) files query) (with_query broken files script)
-
--- the tables that a query declares, where it is accepted
-abbrev pub declared_by : Result Checked Status → List Declared
-declared_by (Ok c) = c.tables
-declared_by (Err why) = []
-
-abbrev pub declared_in : Files → List ℕ → List Declared
-declared_in files query = declared_by (query_in false files query)
+-- The query, the script and the tables, each read and then checked, in this order: what is ready then, or the
+-- first refusal.
+abbrev pub IsPrepared : Broken → Files → List ℕ → List ℕ → Result Prepared Status → Type 0
+IsPrepared broken files query script (Ok p) = (c : Checked) × IsQueryIn (query_fails broken) files query (Ok c) × (with_query broken files script c ≡ Ok p)
+IsPrepared broken files query script (Err s) = IsQueryIn (query_fails broken) files query (Err s) ⊎ ((c : Checked) × IsQueryIn (query_fails broken) files query (Ok c) × (with_query broken files script c ≡ Err s))

@@ -3,8 +3,14 @@ use Rattle.std.specs.Prelude.{ℕ, List, [], ◌∷◌, ◌++◌, codes, flat_ma
 use Rattle.std.specs.Fmt.{decimal}
 use Rattle.castor_load.specs.declared.error.LoadError.{LoadError}
 use Rattle.castor_load.specs.declared.error.LoadError.TheVariants as load
+use Rattle.castor_parse.specs.declared.query.ParseError.{ParseError}
+use Rattle.castor_parse.specs.declared.query.ParseError.TheVariants as parse
+use Rattle.castor_schema.specs.declared.error.SchemaError.{SchemaError}
+use Rattle.castor_schema.specs.declared.error.SchemaError.TheVariants as schema
 use Rattle.castor_cli.specs.declared.status.Place.{Place}
 use Rattle.castor_cli.specs.declared.status.Place.TheVariants as place
+use Rattle.castor_cli.specs.declared.status.QueryFault.{QueryFault}
+use Rattle.castor_cli.specs.declared.status.QueryFault.TheVariants as query
 use Rattle.castor_cli.specs.declared.status.ReadFault.{ReadFault}
 use Rattle.castor_cli.specs.declared.status.ReadFault.TheVariants as fault
 use Rattle.castor_cli.specs.declared.status.Status.{Status}
@@ -15,6 +21,7 @@ code_of status.Ok = 0
 code_of status.Usage = 2
 code_of (status.Read p why) = 3
 code_of (status.Write p) = 4
+code_of (status.Query why) = 5
 code_of (status.Table i why) = 7
 code_of status.TooLong = 10
 code_of status.Memory = 11
@@ -44,6 +51,31 @@ table_line table (load.BadRecord number) = in_a_row (codes "castor: table " ∷ 
 table_line table (load.BadField number column) = in_a_row (codes "castor: table " ∷ table ∷ codes ": record " ∷ decimal number ∷ codes " field " ∷ decimal column ∷ codes "\n" ∷ [])
 table_line table load.Memory = codes "castor: memory\n"
 
+-- the line for a text that isn't parsed
+abbrev pub parse_line : ParseError → List ℕ
+parse_line parse.NotUtf8 = codes "castor: query: not utf-8\n"
+parse_line (parse.Syntax at) = in_a_row (codes "castor: query: syntax at " ∷ decimal at ∷ codes "\n" ∷ [])
+parse_line parse.TooLarge = codes "castor: query: too large\n"
+parse_line parse.Memory = codes "castor: memory\n"
+
+-- the line for names, numbers and types that don't fit
+abbrev pub schema_line : SchemaError → List ℕ
+schema_line schema.UnknownTable = codes "castor: query: unknown table\n"
+schema_line schema.UnknownColumn = codes "castor: query: unknown column\n"
+schema_line schema.UnknownScope = codes "castor: query: unknown scope\n"
+schema_line schema.UnknownParam = codes "castor: query: unknown parameter\n"
+schema_line schema.Ambiguous = codes "castor: query: ambiguous\n"
+schema_line schema.DuplicateName = codes "castor: query: duplicate name\n"
+schema_line schema.TypeMismatch = codes "castor: query: type mismatch\n"
+schema_line schema.WrongCount = codes "castor: query: wrong count\n"
+schema_line schema.TooLarge = codes "castor: query: too large\n"
+schema_line schema.Memory = codes "castor: memory\n"
+
+-- the line for a query that is refused
+abbrev pub query_line : QueryFault → List ℕ
+query_line (query.Parse why) = parse_line why
+query_line (query.Schema why) = schema_line why
+
 abbrev pub fault_end : ReadFault → List ℕ
 fault_end fault.Absent = codes ": absent\n"
 fault_end fault.TooLong = codes ": too long\n"
@@ -55,6 +87,7 @@ error_text words table status.Ok = []
 error_text words table status.Usage = codes "castor: usage: answer QUERY SCRIPT, build QUERY SCRIPT IMAGE, ask IMAGE, show QUERY SCRIPT, code IMAGE, sample N\n"
 error_text words table (status.Read p why) = codes "castor: read " ++ place_name words table p ++ fault_end why
 error_text words table (status.Write p) = codes "castor: write " ++ place_name words table p ++ codes ": failed\n"
+error_text words table (status.Query why) = query_line why
 error_text words table (status.Table i why) = table_line table why
 error_text words table status.TooLong = codes "castor: input: too long\n"
 error_text words table status.Memory = codes "castor: memory\n"

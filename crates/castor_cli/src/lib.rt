@@ -2,22 +2,20 @@
 #![tactic(auto)]
 
 mod answers;
-mod checked;
 mod command;
-mod form;
 mod lines;
 mod preparation;
 mod query;
+mod query_line;
 mod reply;
 mod script;
+mod served;
 mod status;
 mod telling;
-mod tokens;
 mod top;
 
 pub use answers::PrintError;
-pub use checked::{Checked, Declared};
 pub use command::{Command, command_in};
 pub use preparation::{Prepared, Stop};
-pub use status::{Place, ReadFault, Status};
+pub use status::{Place, QueryFault, ReadFault, Status};
 pub use top::{castor, castor_uncounted};

@@ -9,12 +9,12 @@ ghost use Rattle.castor_cli.specs.Gives.{GivesStatus};
 ghost use Rattle.castor_cli.specs.Preparation.{if_loaded};
 ghost use Rattle.castor_cli.specs.Status.{table_file};
 
-use crate::checked::{Checked, Declared};
 use crate::query::read_query;
 use crate::script::is_finish_script;
 use crate::status::{Place, ReadFault, Status};
 use castor_base::{Shelf, ShelfError};
 use castor_load::{LoadError, load};
+use castor_schema::{Checked, Declared};
 use castor_val::{Memory, Table, Text};
 use sqlite_items::Items;
 use std::alloc::Global;
@@ -214,11 +214,7 @@ fn read_checked<S: Shelf>(alloc: Global, shelf: &mut S, query: &str) -> Result<C
     ensures small { IfOk result IsSmall }
 {
     match read_file(alloc, shelf, Place::Query, query, TEXT_LIMIT) {
-        Ok(text) => match read_query(alloc, &text) {
-            Ok(Some(checked)) => Ok(checked),
-            Ok(None) => Err(Status::NotYet),
-            Err(Memory) => Err(Status::Memory),
-        },
+        Ok(text) => read_query(alloc, &text),
         Err(status) => Err(status),
     }
 }
@@ -249,6 +245,22 @@ fn prepare_tables<S: Shelf>(
     }
 }
 
+// The declared tables alone.
+fn into_tables(checked: Checked) -> Items<Declared>
+    ensures { result ≡ checked.tables }
+{
+    let Checked {
+        tables,
+        params,
+        columns,
+        query,
+    } = checked;
+    drop(params);
+    drop(columns);
+    drop(query);
+    tables
+}
+
 /// Reads and checks the query, then the script, and then reads and loads the tables, in this order.
 ///
 /// The stop has the first refusal in that order, or `Memory`. No file changes. Linear in the bytes
@@ -267,7 +279,7 @@ pub fn prepare<S: Shelf>(
     match read_checked(alloc, shelf, query) {
         Ok(checked) => match prepare_tables(alloc, shelf, query, script, &checked) {
             Ok(tables) => Ok(Prepared { checked, tables }),
-            Err(status) => Err(Stop::about(alloc, checked.into_tables(), status)),
+            Err(status) => Err(Stop::about(alloc, into_tables(checked), status)),
         },
         Err(status) => Err(Stop::new(alloc, status)),
     }

@@ -4,6 +4,8 @@ ghost use Rattle.std.specs.Prelude.{◌≡◌};
 ghost use Rattle.castor_cli.specs.Status.{code_of};
 
 use castor_load::LoadError;
+use castor_parse::ParseError;
+use castor_schema::SchemaError;
 
 /// What a command reads or writes.
 #[derive(Clone, Copy, Debug, PartialEq, Eq)]
@@ -33,6 +35,15 @@ pub enum ReadFault {
     Failed,
 }
 
+/// Why a query file is refused.
+#[derive(Clone, Copy, Debug, PartialEq, Eq)]
+pub enum QueryFault {
+    /// Its text isn't a query by the grammar, or is too large.
+    Parse(ParseError),
+    /// Its names, numbers and types don't fit.
+    Schema(SchemaError),
+}
+
 /// How a run ended. `Ok` means that all was done; with any other status one line on the error
 /// output says which it is.
 #[derive(Clone, Copy, Debug, PartialEq, Eq)]
@@ -42,13 +53,15 @@ pub enum Status {
     Usage,
     Read(Place, ReadFault),
     Write(Place),
+    /// Why the query file is refused.
+    Query(QueryFault),
     /// A table, from 0, and why its file isn't one.
     Table(u32, LoadError),
     /// The input has more than 67,108,864 bytes.
     TooLong,
     /// There was no memory.
     Memory,
-    /// A command, a query, a script or a table is asked for that isn't built yet.
+    /// A command, a query or a script is asked for that isn't built yet.
     NotYet,
 }
 
@@ -62,6 +75,7 @@ impl Status {
             Status::Usage => 2,
             Status::Read(_, _) => 3,
             Status::Write(_) => 4,
+            Status::Query(_) => 5,
             Status::Table(_, _) => 7,
             Status::TooLong => 10,
             Status::Memory => 11,

@@ -7,6 +7,7 @@ ghost use Rattle.castor_base.specs.Moves.{AppendsPrefix};
 ghost use Rattle.castor_cli.specs.Puts.{Puts};
 ghost use Rattle.castor_cli.specs.Status.{error_text, fault_end, in_a_row, place_name, table_line};
 
+use crate::query_line::put_query_line;
 use crate::status::{Place, ReadFault, Status};
 use castor_base::{Failed, Sink, put_all, put_pieces};
 use castor_load::LoadError;
@@ -56,8 +57,8 @@ fn fault_end(fault: ReadFault) -> &'static [u8]
     }
 }
 
-// Puts a line in one piece.
-fn put_line<E: Sink>(err: &mut E, line: &[u8]) -> Result<(), Failed>
+/// Puts a line in one piece.
+pub fn put_line<E: Sink>(err: &mut E, line: &[u8]) -> Result<(), Failed>
     ensures { Puts (E.given err.old) (E.given err.new) (Rose (E.faults err.old) (E.faults err.new)) line.now result }
 {
     put_all(err, line)?;
@@ -77,7 +78,8 @@ fn put_named<'a, E: Sink>(
     put_pieces(err, &[start, place.name, place.ending, end])
 }
 
-fn put_three<'a, E: Sink>(err: &mut E, a: &'a [u8], b: &'a [u8], c: &'a [u8]) -> Result<(), Failed>
+/// Puts a line in three pieces.
+pub fn put_three<'a, E: Sink>(err: &mut E, a: &'a [u8], b: &'a [u8], c: &'a [u8]) -> Result<(), Failed>
     ensures { Puts (E.given err.old) (E.given err.new) (Rose (E.faults err.old) (E.faults err.new))
         (in_a_row (a.now ∷ b.now ∷ c.now ∷ [])) result }
 {
@@ -184,6 +186,7 @@ fn put_status<'a, E: Sink>(
             let place = place_name(words, table, place);
             put_named(err, b"castor: write ", place, b": failed\n")
         }
+        Status::Query(why) => put_query_line(err, why),
         Status::Table(_, why) => tell_table(err, table, why),
         Status::TooLong => put_line(err, b"castor: input: too long\n"),
         Status::Memory => put_line(err, b"castor: memory\n"),

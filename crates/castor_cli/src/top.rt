@@ -1,13 +1,14 @@
 //! The top call: a command over a shelf of files, an input and two outputs.
 
-ghost use Rattle.std.specs.Prelude.{◌≡◌, ◌<◌, ◌↔◌, None, List, ℕ, length, map, option_map, slice_index_or, string_bytes, []};
+ghost use Rattle.std.specs.Prelude.{◌≡◌, ◌<◌, ◌↔◌, None, Ok, List, ℕ, length, map, option_map, slice_index_or, string_bytes, []};
 ghost use Rattle.castor_base.specs.Causes.{Rose};
 ghost use Rattle.castor_base.specs.Files.{SameFiles};
 ghost use Rattle.castor_cli.specs.Answers.{answers};
 ghost use Rattle.castor_cli.specs.Causes.{IsSmall};
 ghost use Rattle.castor_cli.specs.Commands.{command_of};
-ghost use Rattle.castor_cli.specs.Outcome.{Ended, EndsReady, IsNotUsage, Printed, Taken, due, started_over, word};
-ghost use Rattle.castor_cli.specs.Preparation.{prepared};
+ghost use Rattle.castor_cli.specs.Complete.{Completes};
+ghost use Rattle.castor_cli.specs.Outcome.{Ended, EndsReady, IsNotUsage, IsStarted, Printed, PrintedText, Taken, word};
+ghost use Rattle.castor_cli.specs.Preparation.{IsPrepared};
 ghost use Rattle.castor_cli.specs.Telling.{Tells};
 ghost use Rattle.castor_cli.specs.declared.status.Status.TheVariants as ended;
 
@@ -41,7 +42,7 @@ fn answer_input<I: Source, O: Sink>(
     out: &mut O,
 ) -> Status
     requires { IsSmall prepared.now.checked }
-    ensures printed { Printed (option_map (answers prepared.now) (I.left input.old)) (O.given out.old) (O.given out.new) result }
+    ensures printed { PrintedText (option_map (answers prepared.now) (I.left input.old)) (O.given out.old) (O.given out.new) result }
     ensures taken { Taken (I.left input.old) (I.left input.new) result }
     ensures ends { EndsReady (Rose (I.faults input.old) (I.faults input.new)) (Rose (O.faults out.old) (O.faults out.new)) result }
 {
@@ -65,7 +66,7 @@ fn answer_prepared<I: Source, O: Sink>(
     out: &mut O,
 ) -> Status
     requires { IsSmall prepared.checked }
-    ensures printed { Printed (option_map (answers prepared) (I.left input.old)) (O.given out.old) (O.given out.new) result }
+    ensures printed { PrintedText (option_map (answers prepared) (I.left input.old)) (O.given out.old) (O.given out.new) result }
     ensures taken { Taken (I.left input.old) (I.left input.new) result }
     ensures ends { EndsReady (Rose (I.faults input.old) (I.faults input.new)) (Rose (O.faults out.old) (O.faults out.new)) result }
 {
@@ -81,12 +82,12 @@ fn answer<S: Shelf, I: Source, O: Sink>(
     input: &mut I,
     out: &mut O,
 ) -> Stop
-    ensures printed { Printed (due (λ files. prepared None files query.now script.now) (S.files shelf.old) (I.left input.old))
+    ensures printed { Printed (λ files p. IsPrepared None files query.now script.now (Ok p)) (S.files shelf.old) (I.left input.old)
         (O.given out.old) (O.given out.new) result.status }
     ensures taken { Taken (I.left input.old) (I.left input.new) result.status }
     ensures how { Ended (S.files shelf.old) (S.files shelf.new) (λ name. Rose (S.read_faults shelf.old name) (S.read_faults shelf.new name))
         (Rose (I.faults input.old) (I.faults input.new)) (Rose (O.faults out.old) (O.faults out.new))
-        (λ files broken. prepared broken files query.now script.now) query.now script.now result.status result.table }
+        (λ files broken. IsPrepared broken files query.now script.now) query.now script.now result.status result.table }
     ensures usage { IsNotUsage result.status }
     ensures shelf { SameFiles (S.files shelf.old) (S.files shelf.new) }
 {
@@ -107,12 +108,12 @@ fn run<S: Shelf, I: Source, O: Sink>(
     input: &mut I,
     out: &mut O,
 ) -> Stop
-    ensures printed { Printed (due (λ files. started_over (map string_bytes words.now) files None) (S.files shelf.old) (I.left input.old))
+    ensures printed { Printed (λ files p. IsStarted (map string_bytes words.now) files None (Ok p)) (S.files shelf.old) (I.left input.old)
         (O.given out.old) (O.given out.new) result.status }
     ensures taken { Taken (I.left input.old) (I.left input.new) result.status }
     ensures how { Ended (S.files shelf.old) (S.files shelf.new) (λ name. Rose (S.read_faults shelf.old name) (S.read_faults shelf.new name))
         (Rose (I.faults input.old) (I.faults input.new)) (Rose (O.faults out.old) (O.faults out.new))
-        (started_over (map string_bytes words.now)) (word (map string_bytes words.now) 1) (word (map string_bytes words.now) 2) result.status result.table }
+        (IsStarted (map string_bytes words.now)) (word (map string_bytes words.now) 1) (word (map string_bytes words.now) 2) result.status result.table }
     ensures usage { (result.status ≡ ended.Usage) ↔ (command_of (map string_bytes words.now) ≡ None) }
     ensures shelf { SameFiles (S.files shelf.old) (S.files shelf.new) }
 {
@@ -144,7 +145,7 @@ pub fn castor<S: Shelf, I: Source, O: Sink, E: Sink, L: Ledger>(
     steps: &mut Steps<L>,
 ) -> Status
     // With Ok the output grew by the reply of each line, in order; with Write or Memory by a prefix of that.
-    ensures printed { Printed (due (λ files. started_over (map string_bytes words.now) files None) (S.files shelf.old) (I.left input.old))
+    ensures printed { Printed (λ files p. IsStarted (map string_bytes words.now) files None (Ok p)) (S.files shelf.old) (I.left input.old)
         (O.given out.old) (O.given out.new) result }
 
     // With Ok nothing of the input is left, and what comes before the input takes nothing of it.
@@ -154,9 +155,13 @@ pub fn castor<S: Shelf, I: Source, O: Sink, E: Sink, L: Ledger>(
     // tells of it, with the name of the table that it speaks of.
     ensures how { (table : List ℕ) × Ended (S.files shelf.old) (S.files shelf.new) (λ name. Rose (S.read_faults shelf.old name) (S.read_faults shelf.new name))
         (Rose (I.faults input.old) (I.faults input.new)) (Rose (O.faults out.old) (O.faults out.new))
-        (started_over (map string_bytes words.now)) (word (map string_bytes words.now) 1) (word (map string_bytes words.now) 2) result table
+        (IsStarted (map string_bytes words.now)) (word (map string_bytes words.now) 1) (word (map string_bytes words.now) 2) result table
         × Tells (map string_bytes words.now) table result (E.given err.old) (E.given err.new) (E.faults err.old) (E.faults err.new) }
     ensures usage { (result ≡ ended.Usage) ↔ (command_of (map string_bytes words.now) ≡ None) }
+
+    // Where the files and the input are told, no cause of a refusal holds and no count rose, the status is Ok or Memory.
+    ensures complete { Completes (S.files shelf.old) (IsStarted (map string_bytes words.now)) (I.left input.old) (λ name. Rose (S.read_faults shelf.old name) (S.read_faults shelf.new name))
+        (Rose (I.faults input.old) (I.faults input.new)) (Rose (O.faults out.old) (O.faults out.new)) result }
 
     // The files stay, and no step is taken.
     ensures shelf { SameFiles (S.files shelf.old) (S.files shelf.new) }
@@ -180,14 +185,16 @@ pub fn castor_uncounted<S: Shelf, I: Source, O: Sink, E: Sink, L: Ledger>(
     requires name { blank.name ≡ L.name }
     requires parts { blank.parts ≡ L.parts }
     requires some { 0 < blank.parts }
-    ensures printed { Printed (due (λ files. started_over (map string_bytes words.now) files None) (S.files shelf.old) (I.left input.old))
+    ensures printed { Printed (λ files p. IsStarted (map string_bytes words.now) files None (Ok p)) (S.files shelf.old) (I.left input.old)
         (O.given out.old) (O.given out.new) result }
     ensures taken { Taken (I.left input.old) (I.left input.new) result }
     ensures how { (table : List ℕ) × Ended (S.files shelf.old) (S.files shelf.new) (λ name. Rose (S.read_faults shelf.old name) (S.read_faults shelf.new name))
         (Rose (I.faults input.old) (I.faults input.new)) (Rose (O.faults out.old) (O.faults out.new))
-        (started_over (map string_bytes words.now)) (word (map string_bytes words.now) 1) (word (map string_bytes words.now) 2) result table
+        (IsStarted (map string_bytes words.now)) (word (map string_bytes words.now) 1) (word (map string_bytes words.now) 2) result table
         × Tells (map string_bytes words.now) table result (E.given err.old) (E.given err.new) (E.faults err.old) (E.faults err.new) }
     ensures usage { (result ≡ ended.Usage) ↔ (command_of (map string_bytes words.now) ≡ None) }
+    ensures complete { Completes (S.files shelf.old) (IsStarted (map string_bytes words.now)) (I.left input.old) (λ name. Rose (S.read_faults shelf.old name) (S.read_faults shelf.new name))
+        (Rose (I.faults input.old) (I.faults input.new)) (Rose (O.faults out.old) (O.faults out.new)) result }
     ensures shelf { SameFiles (S.files shelf.old) (S.files shelf.new) }
 {
     let mut steps: Steps<L> = Steps::new(blank);

@@ -127,20 +127,62 @@ fn the_script_may_have_comments(rt: HostRuntime) -> Result<(), Fail> {
     Ok(())
 }
 
+// Queries over the orders, and the lines of their refusals.
+const REFUSED_QUERIES: [(&str, &str); 9] = [
+    ("query sales", "castor: query: unknown table\n"),
+    (
+        "query filter(city = 'x', orders)",
+        "castor: query: unknown column\n",
+    ),
+    (
+        "query filter(total = 'x', orders)",
+        "castor: query: type mismatch\n",
+    ),
+    (
+        "query filter(cust = $z, orders)",
+        "castor: query: unknown parameter\n",
+    ),
+    (
+        "query filter(id = 1, join(total = 3, orders, select([id], orders)))",
+        "castor: query: ambiguous\n",
+    ),
+    ("query scalar(k.0)", "castor: query: unknown scope\n"),
+    (
+        "query groupby([], [], orders)",
+        "castor: query: wrong count\n",
+    ),
+    (
+        "table t (x int, x int); query t",
+        "castor: query: duplicate name\n",
+    ),
+    ("query filter(", "castor: query: syntax at 58\n"),
+];
+
+fn with_query(alloc: Global, query: &str) -> Result<Ran, Fail> {
+    let text = format!(in alloc; "table orders (id int, cust text, total int); {query}")?;
+    with_files(alloc, &text, "finish;", ORDERS)
+}
+
 #[test]
-fn a_query_of_another_form_is_not_answered_yet(rt: HostRuntime) -> Result<(), Fail> {
-    let query =
-        "table orders (id int, cust text, total int); param c text; query filter(cust != $c, orders)";
-    let ran = with_files(rt.alloc(), query, "finish;", ORDERS)?;
+fn a_refused_query_is_told_by_its_cause(rt: HostRuntime) -> Result<(), Fail> {
+    for (query, line) in REFUSED_QUERIES {
+        let ran = with_query(rt.alloc(), query)?;
+        refused(&rt, &ran, 5, line);
+    }
+    Ok(())
+}
+
+#[test]
+fn a_query_that_may_fault_is_not_answered_yet(rt: HostRuntime) -> Result<(), Fail> {
+    let query = "param n int; query orderby([s desc], groupby([cust], [sum(total) as s], filter(id <= $n, orders)))";
+    let ran = with_query(rt.alloc(), query)?;
     refused(&rt, &ran, 12, "castor: not yet\n");
     Ok(())
 }
 
 #[test]
-fn a_column_of_another_type_is_not_answered_yet(rt: HostRuntime) -> Result<(), Fail> {
-    let query =
-        "table orders (id int, cust text, total int); param c text; query filter(total = $c, orders)";
-    let ran = with_files(rt.alloc(), query, "finish;", ORDERS)?;
+fn a_join_is_not_answered_yet(rt: HostRuntime) -> Result<(), Fail> {
+    let ran = with_query(rt.alloc(), "query join(true, orders, orders)")?;
     refused(&rt, &ran, 12, "castor: not yet\n");
     Ok(())
 }

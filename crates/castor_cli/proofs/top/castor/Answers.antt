@@ -1,0 +1,7 @@
+use Rattle.castor_cli.proofs.Completeness.{completes}
+use Rattle.castor_cli.proofs.OneOutcome.{started_not_refused}
+use Rattle.castor_cli.proofs.top.castor.Goals as goal
+
+pub returns-clause-complete : goal.returns-clause-complete
+returns-clause-complete g c =
+    completes _ _ _ _ _ _ _ _ _ _ _ _ (λ files p w. started_not_refused _ files p w) c.run-stop.ensures.shelf c.run-stop.ensures.taken c.run-stop.ensures.how

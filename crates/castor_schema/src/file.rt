@@ -1,0 +1,37 @@
+//! The check of a query file.
+
+ghost use Rattle.castor_val.specs.Gives.{Gives};
+ghost use Rattle.castor_schema.specs.Check.{checked};
+ghost use Rattle.castor_schema.specs.declared.error.SchemaError.TheVariants as error;
+
+use crate::checked::Checked;
+use crate::column::plain_columns;
+use crate::declarations::declared;
+use crate::error::SchemaError;
+use crate::relation::relation;
+use crate::scopes::Scopes;
+use castor_parse::File;
+use std::alloc::Global;
+
+/// What a query file means: its tables, its parameters, the columns of its answer, and its query with
+/// numbers in the place of names; or the first refusal.
+///
+/// Declarations come in their order, then the query. Of a relation come its operands left to right, then
+/// its lists and expressions left to right, then its own conditions: WrongCount, TypeMismatch, TooLarge.
+/// Of an expression come its operands left to right, then itself. Binders are numbered from 0 in preorder.
+///
+/// Linear in the tree times the number of columns and scopes that a name is sought among, which is a scan
+/// over at most 64 columns, or 128 in a `join`. Quadratic in the number of columns of one declaration.
+pub fn check(alloc: Global, file: &File) -> Result<Checked, SchemaError>
+    ensures { Gives (λ c. c) error.Memory (checked file.now) result }
+{
+    let known = declared(alloc, file.decls.as_slice())?;
+    let found = relation(alloc, &known, &Scopes::NoScope, 0, &file.query)?;
+    let columns = plain_columns(alloc, found.columns.as_slice())?;
+    Ok(Checked {
+        tables: known.tables,
+        params: known.params,
+        columns,
+        query: found.query,
+    })
+}

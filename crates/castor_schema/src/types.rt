@@ -1,0 +1,95 @@
+//! Which types operators take and give.
+
+ghost use Rattle.std.specs.Prelude.{◌≡◌, map};
+ghost use Rattle.castor_schema.specs.Names.{types_of};
+ghost use Rattle.castor_schema.specs.Types.{choice_type, comparison_type, from_both, negation_type, operator_type, same_type, same_types};
+
+use crate::column::NamedColumn;
+use castor_alg::Op;
+use castor_val::Ty;
+
+/// Whether the two are one type.
+pub fn is_same_type(a: Ty, b: Ty) -> bool
+    ensures { result ≡ same_type a b }
+{
+    a == b
+}
+
+fn from_both(takes: Ty, gives: Ty, a: Ty, b: Ty) -> Option<Ty>
+    ensures { result ≡ from_both takes gives a b }
+{
+    if is_same_type(a, takes) && is_same_type(b, takes) {
+        Some(gives)
+    } else {
+        None
+    }
+}
+
+fn comparison_type(a: Ty, b: Ty) -> Option<Ty>
+    ensures { result ≡ comparison_type a b }
+{
+    if is_same_type(a, b) {
+        Some(Ty::Bool)
+    } else {
+        None
+    }
+}
+
+/// The type of a binary operator over sides of these types, where it takes them.
+pub fn operator_type(op: Op, a: Ty, b: Ty) -> Option<Ty>
+    ensures { result ≡ operator_type op a b }
+{
+    match op {
+        Op::Or | Op::And => from_both(Ty::Bool, Ty::Bool, a, b),
+        Op::Eq | Op::Ne | Op::Lt | Op::Le | Op::Gt | Op::Ge => comparison_type(a, b),
+        Op::Add | Op::Sub | Op::Mul | Op::Div | Op::Rem => from_both(Ty::Int, Ty::Int, a, b),
+    }
+}
+
+/// The type of `not` over a side of this type, where it takes it.
+pub fn negation_type(a: Ty) -> Option<Ty>
+    ensures { result ≡ negation_type a }
+{
+    if is_same_type(a, Ty::Bool) {
+        Some(Ty::Bool)
+    } else {
+        None
+    }
+}
+
+/// The type of `if` over a condition and sides of these types, where it takes them.
+pub fn choice_type(condition: Ty, a: Ty, b: Ty) -> Option<Ty>
+    ensures { result ≡ choice_type condition a b }
+{
+    if is_same_type(condition, Ty::Bool) && is_same_type(a, b) {
+        Some(a)
+    } else {
+        None
+    }
+}
+
+/// Whether columns have these types, and are as many. Linear in their number.
+pub fn have_types(columns: &[NamedColumn], types: &[Ty]) -> bool
+    ensures { result ≡ same_types (types_of columns.now) types.now }
+{
+    match (columns, types) {
+        ([], []) => true,
+        ([column, columns @ ..], [ty, types @ ..]) => {
+            is_same_type(column.ty, *ty) && have_types(columns, types)
+        }
+        _ => false,
+    }
+}
+
+/// Whether two lists of columns have the same types. Linear in their number.
+pub fn have_same_types(columns: &[NamedColumn], others: &[NamedColumn]) -> bool
+    ensures { result ≡ same_types (types_of columns.now) (types_of others.now) }
+{
+    match (columns, others) {
+        ([], []) => true,
+        ([column, columns @ ..], [other, others @ ..]) => {
+            is_same_type(column.ty, other.ty) && have_same_types(columns, others)
+        }
+        _ => false,
+    }
+}

@@ -1,6 +1,7 @@
 mod Completeness
 mod Cuts
 mod Ends
+mod Limits
 mod OneOutcome
 mod Output
 mod Preparing

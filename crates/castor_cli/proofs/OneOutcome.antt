@@ -31,12 +31,13 @@ same_tokens : (text : List ℕ) (ts us : List Token) → tokens_of text ≡ Some
 same_tokens text ts us a b = let f : ◌≡◌ {A = Option (List Token)} (Some ts) (Some us) = sym a ∙ b in cc f
 
 file_of_parts : (f g : File) → f.tokens ≡ g.tokens → f.decls ≡ g.decls → f.query ≡ g.query → f ≡ g
-file_of_parts f g ts ds q = cc (ts, ds, q)
+file_of_parts f g ts ds q =
+    let same : ◌≡◌ {A = File} (record { tokens = f.tokens; decls = f.decls; query = f.query }) (record { tokens = g.tokens; decls = g.decls; query = g.query }) = rw (ts, ds, q) refl in same
 
 same_trees : (text : List ℕ) (f g : File) (a : IsParsed text f) (b : IsParsed text g) → a.tokens ≡ b.tokens → f ≡ g
 same_trees text f g a b same =
     let derived = subst (λ (ts : List Token). IsFile (lexemes text ts) g.decls g.query) (sym same) b.derived in
-    let one = one_tree text a.tokens f.decls g.decls f.query g.query a.are_tokens a.derived derived a.small in
+    let one = one_tree text a.tokens f.decls g.decls f.query g.query a.are_tokens a.derived derived in
     file_of_parts f g (a.spans ∙ ap (λ (ts : List Token). map (λ t. t.span) ts) same ∙ sym b.spans) one.0 one.1
 
 -- a text is parsed to one file
@@ -46,7 +47,7 @@ one_file text f g a b = same_trees text f g a b (same_tokens text a.tokens b.tok
 -- ---- a text that is parsed isn't refused
 
 true_not_false : (b : Bool) → b ≡ true → b ≡ false → ⊥
-true_not_false b yes no = let f : true ≡ false = sym yes ∙ no in cc f
+true_not_false b is isnt = let f : true ≡ false = sym is ∙ isnt in cc f
 
 not_too_large : (text : List ℕ) (file : File) → IsParsed text file → IsTooLarge text → ⊥
 not_too_large text file p (by_bytes long) = omega (arith, long, p.are_tokens.short)
@@ -55,7 +56,7 @@ not_too_large text file p (by_tokens ts short utf8 cut within) =
 not_too_large text file p (by_tree ts decls query are_tokens derived large) =
     let same = same_tokens text ts p.tokens are_tokens.cut p.are_tokens.cut in
     let own = subst (λ (us : List Token). IsFile (lexemes text us) decls query) same derived in
-    let one = one_tree text p.tokens file.decls decls file.query query p.are_tokens p.derived own p.small in
+    let one = one_tree text p.tokens file.decls decls file.query query p.are_tokens p.derived own in
     large (rw (sym one.1) p.small)
 
 no_syntax_fault : (text : List ℕ) (file : File) → IsParsed text file → HasSyntaxFault text → ⊥

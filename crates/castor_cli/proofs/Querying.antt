@@ -1,7 +1,6 @@
 -- What reading the query's file and checking its text give.
 use Rattle.std.proofs.Common.{◌≡◌, ◌⊎◌, ℕ, List, Bool, true, false, Option, Some, None, Result, Ok, Err, IfSome, refl, inl, inr}
 use Rattle.castor_base.specs.Files.{Files}
-use Rattle.castor_base.specs.declared.failed.ShelfError.TheVariants as shelf
 use Rattle.castor_parse.specs.declared.query.ParseError.{ParseError}
 use Rattle.castor_parse.specs.declared.query.ParseError.TheVariants as parse
 use Rattle.castor_parse.specs.declared.tree.File.{File}
@@ -15,7 +14,7 @@ use Rattle.castor_cli.specs.declared.status.QueryFault.TheVariants as fault
 use Rattle.castor_cli.specs.declared.status.ReadFault.TheVariants as reading
 use Rattle.castor_cli.specs.declared.status.Status.{Status}
 use Rattle.castor_cli.specs.declared.status.Status.TheVariants as status
-use Rattle.castor_cli.specs.Causes.{IsOfPart, PartRefused, Refused, RoseWhere, Stands, Unread, read_status}
+use Rattle.castor_cli.specs.Causes.{IsOfPart, PartRefused, ReadsQuery, RoseWhere, Stands}
 use Rattle.castor_cli.specs.Preparation.{IsQueryIn, readable, text_limit}
 use Rattle.castor_cli.specs.Query.{IsQuery, ReadsText, ReadsTree, Unparsed, is_unchecked, is_unparsed}
 use Rattle.castor_cli.specs.Served.{is_served}
@@ -71,7 +70,7 @@ reads_tree text file (Err s) parsed h = refused_tree text file s parsed h
 -- ---- the file
 
 -- the text of the query was read, and is a query
-pub query_well : (told : Option Files) (query text : List ℕ) (c : Checked) → IfSome told (λ (files : Files). Stands text_limit text (files query)) → ReadsText text (Ok c)
+query_well : (told : Option Files) (query text : List ℕ) (c : Checked) → IfSome told (λ (files : Files). Stands text_limit text (files query)) → ReadsText text (Ok c)
     → IfSome told (λ (files : Files). IsQueryIn false files query (Ok c))
 query_well told query text c stands is = if_told told _ _ (λ files s. rw (readable_well place.Query text_limit (files query) text s) is) stands
 
@@ -100,7 +99,7 @@ text_due files query text status.NotYet is stands = said files query text _ stan
 text_due files query text s is stands = absurd is
 
 -- the text of the query was read, and is refused
-pub query_refused : (told told_after : Option Files) (rose : Type 0) (query text : List ℕ) (s : Status) → IfSome told (λ (files : Files). Stands text_limit text (files query)) → ReadsText text (Err s)
+query_refused : (told told_after : Option Files) (rose : Type 0) (query text : List ℕ) (s : Status) → IfSome told (λ (files : Files). Stands text_limit text (files query)) → ReadsText text (Err s)
     → PartRefused told told_after rose place.Query (λ fails files. IsQueryIn fails files query) s
 query_refused told told_after rose query text s stands is = record {
   of_part = text_of_part text s is;
@@ -108,22 +107,8 @@ query_refused told told_after rose query text s stands is = record {
   count = text_counts told_after rose text s is;
 }
 
-unread_of_part : (e : _) → IsOfPart place.Query (read_status place.Query e)
-unread_of_part shelf.Absent = tt
-unread_of_part shelf.TooLong = tt
-unread_of_part shelf.Failed = tt
-unread_of_part shelf.Memory = tt
-
-unread_due : (files : Files) (query : List ℕ) (s : Status) → Unread place.Query text_limit (files query) s
-    → (s ≡ status.Memory) ⊎ ((fails : Bool) × (fails ≡ true → s ≡ status.Read place.Query reading.Failed) × IsQueryIn fails files query (Err s))
-unread_due files query s (inl memory) = inl memory
-unread_due files query s (inr (fails, blames, is)) = inr (fails, blames, rw is refl)
-
--- the file of the query wasn't read
-pub query_unread : (told told_after : Option Files) (rose : Type 0) (query : List ℕ) (s : Status) → Refused told told_after rose place.Query text_limit query s
-    → PartRefused told told_after rose place.Query (λ fails files. IsQueryIn fails files query) s
-query_unread told told_after rose query s r = record {
-  of_part = let (e, is) = r.error in rw is (unread_of_part e);
-  due = if_told told _ _ (λ files. unread_due files query s) r.due;
-  count = r.count;
-}
+-- the text of the query was read
+pub reads_query : (told told_after : Option Files) (rose : Type 0) (query text : List ℕ) (r : Result Checked Status) → IfSome told (λ (files : Files). Stands text_limit text (files query)) → ReadsText text r
+    → ReadsQuery told told_after rose query r
+reads_query told told_after rose query text (Ok c) stands is = query_well told query text c stands is
+reads_query told told_after rose query text (Err s) stands is = query_refused told told_after rose query text s stands is

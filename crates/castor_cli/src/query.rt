@@ -3,6 +3,7 @@
 ghost use Rattle.std.specs.Prelude.{◌≡◌, IfErr, IfOk};
 ghost use Rattle.castor_cli.specs.Causes.{IsSmall};
 ghost use Rattle.castor_cli.specs.Query.{ReadsText, ReadsTree, Unparsed, is_unchecked, is_unparsed};
+ghost use Rattle.castor_parse.specs.Formed.{IsFormed};
 ghost use Rattle.castor_parse.specs.Parsed.{IsParsed};
 
 use crate::served::is_served;
@@ -34,6 +35,7 @@ fn unchecked(why: SchemaError) -> Status
 // The tree of a text.
 fn read_tree(alloc: Global, text: &[u8]) -> Result<File, Status>
     ensures ok { IfOk result (IsParsed text.now) }
+    ensures formed { IfOk result IsFormed }
     ensures err { IfErr result (Unparsed text.now) }
 {
     match parse(alloc, text) {
@@ -44,6 +46,7 @@ fn read_tree(alloc: Global, text: &[u8]) -> Result<File, Status>
 
 // What a tree says, where it is answered yet.
 fn check_tree(alloc: Global, file: File) -> Result<Checked, Status>
+    requires { IsFormed file }
     ensures reads { ReadsTree file result }
     ensures small { IfOk result IsSmall }
 {

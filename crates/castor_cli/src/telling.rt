@@ -79,7 +79,12 @@ fn put_named<'a, E: Sink>(
 }
 
 /// Puts a line in three pieces.
-pub fn put_three<'a, E: Sink>(err: &mut E, a: &'a [u8], b: &'a [u8], c: &'a [u8]) -> Result<(), Failed>
+pub fn put_three<'a, E: Sink>(
+    err: &mut E,
+    a: &'a [u8],
+    b: &'a [u8],
+    c: &'a [u8],
+) -> Result<(), Failed>
     ensures { Puts (E.given err.old) (E.given err.new) (Rose (E.faults err.old) (E.faults err.new))
         (in_a_row (a.now ∷ b.now ∷ c.now ∷ [])) result }
 {

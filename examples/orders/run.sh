@@ -5,4 +5,5 @@ cd "$(dirname "$0")"
 top=$(cd ../.. && pwd)
 castor=${CASTOR:-$top/crates/castor/out/castor}
 [ -x "$castor" ] || (cd "$top/crates/castor" && rt run -- answer none none </dev/null >/dev/null 2>&1 || true)
-"$castor" answer by_customer.query finish.script < questions.txt
+"$castor" answer by_customer.query finish.script < customers.txt
+"$castor" answer largest.query finish.script < least.txt

@@ -1,4 +1,5 @@
 mod Columns
+mod Completeness
 mod Cuts
 mod Ends
 mod Output

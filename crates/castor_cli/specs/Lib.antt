@@ -1,6 +1,7 @@
 pub mod Answers
 pub mod Causes
 pub mod Commands
+pub mod Complete
 pub mod Gives
 pub mod Lines
 pub mod OneForm

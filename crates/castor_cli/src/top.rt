@@ -6,6 +6,7 @@ ghost use Rattle.castor_base.specs.Files.{SameFiles};
 ghost use Rattle.castor_cli.specs.Answers.{answers};
 ghost use Rattle.castor_cli.specs.Causes.{IsSmall};
 ghost use Rattle.castor_cli.specs.Commands.{command_of};
+ghost use Rattle.castor_cli.specs.Complete.{Completes};
 ghost use Rattle.castor_cli.specs.Outcome.{Ended, EndsReady, IsNotUsage, Printed, Taken, due, started_over, word};
 ghost use Rattle.castor_cli.specs.Preparation.{prepared};
 ghost use Rattle.castor_cli.specs.Telling.{Tells};
@@ -158,6 +159,10 @@ pub fn castor<S: Shelf, I: Source, O: Sink, E: Sink, L: Ledger>(
         × Tells (map string_bytes words.now) table result (E.given err.old) (E.given err.new) (E.faults err.old) (E.faults err.new) }
     ensures usage { (result ≡ ended.Usage) ↔ (command_of (map string_bytes words.now) ≡ None) }
 
+    // Where the files and the input are told, no cause of a refusal holds and no count rose, the status is Ok or Memory.
+    ensures complete { Completes (S.files shelf.old) (started_over (map string_bytes words.now)) (I.left input.old) (λ name. Rose (S.read_faults shelf.old name) (S.read_faults shelf.new name))
+        (Rose (I.faults input.old) (I.faults input.new)) (Rose (O.faults out.old) (O.faults out.new)) result }
+
     // The files stay, and no step is taken.
     ensures shelf { SameFiles (S.files shelf.old) (S.files shelf.new) }
     ensures steps { steps.new ≡ steps.old }
@@ -188,6 +193,8 @@ pub fn castor_uncounted<S: Shelf, I: Source, O: Sink, E: Sink, L: Ledger>(
         (started_over (map string_bytes words.now)) (word (map string_bytes words.now) 1) (word (map string_bytes words.now) 2) result table
         × Tells (map string_bytes words.now) table result (E.given err.old) (E.given err.new) (E.faults err.old) (E.faults err.new) }
     ensures usage { (result ≡ ended.Usage) ↔ (command_of (map string_bytes words.now) ≡ None) }
+    ensures complete { Completes (S.files shelf.old) (started_over (map string_bytes words.now)) (I.left input.old) (λ name. Rose (S.read_faults shelf.old name) (S.read_faults shelf.new name))
+        (Rose (I.faults input.old) (I.faults input.new)) (Rose (O.faults out.old) (O.faults out.new)) result }
     ensures shelf { SameFiles (S.files shelf.old) (S.files shelf.new) }
 {
     let mut steps: Steps<L> = Steps::new(blank);

@@ -1,10 +1,10 @@
 -- The number of buckets is the least power of two that is large enough.
-use Rattle.std.proofs.Common.{◌≡◌, ◌∙◌, ℕ, zero, suc, ◌+◌, ◌-◌, ◌*◌, ◌/◌, ◌^◌, ◌<◌, ◌≤◌, max, ap, refl, subst, ⊎_elim, arith}
-use Rattle.std.proofs.Math.Nat.{pow-suc, pow-zero}
+use Rattle.std.proofs.Common.{◌≡◌, ◌∙◌, ℕ, zero, suc, ◌-◌, ◌*◌, ◌/◌, ◌^◌, ◌<◌, ◌≤◌, max, refl, subst, ⊎_elim, arith}
+use Rattle.std.proofs.Math.Nat.{pow-suc}
 use Rattle.std.proofs.Math.Pow.{pow_mono}
 use Rattle.std.proofs.lemmas.Nat.{pow_pos}
 use Rattle.std.proofs.lemmas.Bool.{cases_lt}
-use Rattle.castor_fixed.specs.Digits.{bits, digit_count, IsFewestDigits}
+use Rattle.castor_fixed.specs.Digits.{bits, IsFewestDigits}
 use Rattle.castor_fixed.proofs.DigitLaws.{digit_count-fewest}
 use Rattle.castor_dir.specs.Buckets.{bucket_count, IsLeastPowerOfTwo}
 

@@ -9,8 +9,10 @@ use castor_val::Cell;
 #[cfg(test)]
 mod tests;
 
-// The hash of no byte, and the factor of each step.
+// The hash of no byte.
 const BASIS: u64 = 14_695_981_039_346_656_037;
+
+// What each step multiplies by.
 const PRIME: u64 = 1_099_511_628_211;
 
 // What ends the bytes of a text, and is no byte of any.

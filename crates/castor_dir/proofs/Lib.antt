@@ -1,0 +1,4 @@
+pub mod CountLaws
+pub mod PowerLaws
+pub mod DirectoryLaws
+pub mod PlacingLaws

@@ -1,0 +1,4 @@
+pub mod ByteLaws
+pub mod DigitLaws
+pub mod FieldLaws
+pub mod RangeLaws

@@ -21,7 +21,7 @@ use Rattle.castor_parse.specs.Grammar.{Level, IsCol, IsAlias, IsExpr, Compares}
 use Rattle.castor_parse.specs.Sizes.{expr_nodes}
 use Rattle.castor_parse.specs.Parser.{State, Outcome, Parser, and_then, at, spend, shown, node, kind_of, first_kind, is_symbol, is_keyword, empty_expr, expr_node, eat_symbol, eat_keyword, expect_symbol, expect_keyword, read_name, read_int, read_text, chain_turn, chain_from, chain, or_operator, and_operator, comparison, sum_operator, term_operator, leading_nots, read_nots, negated, compared, int_limit, column_limit, int_literal, negative_literal, text_literal, truth_literal, read_param, numbered_col, named, read_if, parenthesized, read_prim, read_term, read_sum, read_cmp, read_not, read_and, read_or, expr_at, col_number, col_name, read_col, read_alias}
 use Rattle.castor_parse.proofs.NodeLaws.{expr_nodes-Col, expr_nodes-ScopeAt, expr_nodes-Param, expr_nodes-Lit, expr_nodes-Bin, expr_nodes-Not, expr_nodes-If}
-use Rattle.castor_parse.proofs.Readings.{spends, had_some}
+use Rattle.castor_parse.proofs.Readings.{spend_none, spends, had_some}
 use Rattle.castor_parse.proofs.Past.{Past, both_past, token_past, behind, and_first, and_second, compare_plain, expr_past}
 
 -- a tree was read, and what was made is it while some of the budget is left
@@ -48,7 +48,7 @@ node_done size o m k c empty x tree us is spent sized same = record {
 
 -- one node alone
 pub leaf_done : {A : Type 0} (size : A → ℕ) (o : Outcome A) (m : ℕ) (empty tree : A) (us : Lexemes) → o ≡ node empty tree (at us m) → size tree ≡ 1 → Done size o m tree us
-leaf_done size o m empty tree us is sized = node_done size o m 0 m empty tree tree us is refl sized (λ h. refl)
+leaf_done size o m empty tree us is sized = node_done size o m 0 m empty tree tree us is (spend_none m) sized (λ h. refl)
 
 -- the steps after what was read
 pub goes : {A B : Type 0} {size : A → ℕ} {o : Outcome A} {m : ℕ} {tree : A} {us : Lexemes} (d : Done size o m tree us) (f : A → Parser B) (r : Outcome B) → f d.made (at us d.left) ≡ r → and_then o f ≡ r

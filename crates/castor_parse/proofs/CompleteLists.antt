@@ -6,7 +6,7 @@ use Rattle.castor_parse.specs.Grammar as g
 use Rattle.castor_parse.specs.Grammar.{Separated, last, more, MaybeSeparated, no_items, some_items}
 use Rattle.castor_parse.specs.Sizes.{all_nodes}
 use Rattle.castor_parse.specs.Parser.{State, Outcome, Parser, and_then, at, spend, first_kind, is_symbol, eat_symbol, expect_symbol, followed, separated_from, separated, bracketed, maybe_bracketed}
-use Rattle.castor_parse.proofs.Readings.{spends, had_some}
+use Rattle.castor_parse.proofs.Readings.{spend_none, spends, had_some}
 use Rattle.castor_parse.proofs.SoundLists.{all_nodes-last, all_nodes-cons}
 use Rattle.castor_parse.proofs.Past.{Past, both_past, token_past}
 use Rattle.castor_parse.proofs.CompleteExpr.{Done, goes}
@@ -104,7 +104,7 @@ module _ {A : Type 0} (R : Lexemes → A → Lexemes → Type 0) (size : A → �
 
   maybe_of : {ts ws : Lexemes} {xs : List A} → MaybeSeparated R ts xs ws → (us : Lexemes) → ws ≡ g.close_bracket ∷ us → ((ts us : Lexemes) (xs : List A) → Separated R ts xs us → is_symbol sign.CloseBracket (first_kind ts) ≡ false) → Fits ts → Follows (g.close_bracket ∷ us) → (m : ℕ) → Done (all_nodes size) (maybe_bracketed item (at (g.open_bracket ∷ ts) m)) m xs us
   unfolding maybe_bracketed followed expect_symbol eat_symbol
-  maybe_of no_items us e begins fits follows m = rw e (record { made = []; left = m; is = refl; spent = refl; same = λ le. refl })
+  maybe_of no_items us e begins fits follows m = rw e (record { made = []; left = m; is = refl; spent = spend_none m; same = λ le. refl })
   maybe_of (some_items {ts = ts} {us = ws} {xs = xs} s) us e begins fits follows m =
       let sep : Separated R ts xs (g.close_bracket ∷ us) = subst (λ w. Separated R ts xs w) e s in
       let d = separated_done sep fits follows refl m in

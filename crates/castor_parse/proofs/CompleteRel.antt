@@ -22,7 +22,7 @@ use Rattle.castor_parse.specs.Grammar.{Separated, last, more, MaybeSeparated, Is
 use Rattle.castor_parse.specs.Sizes.{expr_nodes, item_nodes, bound_nodes, all_nodes, nodes}
 use Rattle.castor_parse.specs.Parser.{State, Outcome, Parser, and_then, at, spend, first_kind, is_symbol, is_keyword, empty_rel, rel_node, followed, expect_symbol, expect_keyword, read_name, read_item, read_lower, read_upper, aggregated, read_count, read_aggregate, read_agg, falls_by, read_key, read_col, read_alias, read_table_name, read_source, read_scalar, read_rels, read_select, read_filter, read_join, read_binder, read_hash, read_ordered, read_groupby, read_orderby, read_dedup, rel_by, read_rel, rel_at, expr_at, separated, bracketed, maybe_bracketed}
 use Rattle.castor_parse.proofs.NodeLaws as size
-use Rattle.castor_parse.proofs.Readings.{spends, had_some}
+use Rattle.castor_parse.proofs.Readings.{spend_none, spends, had_some}
 use Rattle.castor_parse.proofs.SoundLists.{no_nodes, all_nodes-none}
 use Rattle.castor_parse.proofs.SoundRel.{no_sum}
 use Rattle.castor_parse.proofs.Past.{Past, both_past, token_past, and_first, and_second, in_brackets, expr_past, separated_past, maybe_past, col_past, item_past, agg_past, key_past, lower_past, upper_past, scope_past, rel_past}
@@ -56,7 +56,7 @@ item_done (g.item {called = called} d f) n k room ends m =
 
 lower_done : {ts us : Lexemes} {b : PBound} → IsLower ts b us → (n k : ℕ) → Room n k ts → strength us < 1 → (m : ℕ) → Done bound_nodes (read_lower (expr_at n) (at ts m)) m b us
 unfolding read_lower
-lower_done (g.any_lower {ts}) n k room s m = record { made = bound.Any; left = m; is = refl; spent = refl; same = λ le. refl }
+lower_done (g.any_lower {ts}) n k room s m = record { made = bound.Any; left = m; is = refl; spent = spend_none m; same = λ le. refl }
 lower_done (g.from {ts} {us} d) n k room s m =
     let x = expr_done d n k (room_past (token_past (symbol sign.Ge) ts (λ j. refl)) room) s m in
     record { made = bound.Incl x.made; left = x.left; is = goes x _ _ refl; spent = x.spent; same = λ le. ap bound.Incl (x.same le) }
@@ -66,7 +66,7 @@ lower_done (g.above {ts} {us} d) n k room s m =
 
 upper_done : {ts us : Lexemes} {b : PBound} → IsUpper ts b us → (n k : ℕ) → Room n k ts → strength us < 1 → (m : ℕ) → Done bound_nodes (read_upper (expr_at n) (at ts m)) m b us
 unfolding read_upper
-upper_done (g.any_upper {ts}) n k room s m = record { made = bound.Any; left = m; is = refl; spent = refl; same = λ le. refl }
+upper_done (g.any_upper {ts}) n k room s m = record { made = bound.Any; left = m; is = refl; spent = spend_none m; same = λ le. refl }
 upper_done (g.up_to {ts} {us} d) n k room s m =
     let x = expr_done d n k (room_past (token_past (symbol sign.Le) ts (λ j. refl)) room) s m in
     record { made = bound.Incl x.made; left = x.left; is = goes x _ _ refl; spent = x.spent; same = λ le. ap bound.Incl (x.same le) }
@@ -97,7 +97,7 @@ key_done (g.desc d) ends m = rw (col_done d (omega arith) m) refl
 
 -- a tree without nodes
 pub plain_done : {A : Type 0} (o : Outcome A) (m : ℕ) (x : A) (us : Lexemes) → o ≡ Some (x, at us m) → Done no_nodes o m x us
-plain_done o m x us is = record { made = x; left = m; is = is; spent = refl; same = λ le. refl }
+plain_done o m x us is = record { made = x; left = m; is = is; spent = spend_none m; same = λ le. refl }
 
 -- ---- lists
 
@@ -251,7 +251,7 @@ module _ (rel : Parser PRel) (expr : Parser PExpr) where
   groupby_done : (ts us vs ws : Lexemes) (keys : List PCol) (aggs : List (PAgg × Option Word)) (p : PRel) (m : ℕ) → (x : Done (all_nodes no_nodes) (maybe_bracketed read_col (at (g.open_bracket ∷ ts) m)) m keys (g.comma ∷ g.open_bracket ∷ us)) → (y : Done (all_nodes no_nodes) (maybe_bracketed read_agg (at (g.open_bracket ∷ us) x.left)) x.left aggs (g.comma ∷ vs)) → Done nodes (rel (at vs y.left)) y.left p (g.close_paren ∷ ws) → DoneBehind word.Groupby (g.open_bracket ∷ ts) m (r.Group keys aggs p) ws
   unfolding read_rel read_groupby followed expect_symbol
   groupby_done ts us vs ws keys aggs p m x y z =
-      let none : y.left ≡ m = spends m x.left y.left (all_nodes no_nodes keys) (all_nodes no_nodes aggs) x.spent y.spent ∙ ap (spend m) (no_sum (all_nodes no_nodes keys) (all_nodes no_nodes aggs) (all_nodes-none keys) (all_nodes-none aggs)) in
+      let none : y.left ≡ spend m 0 = spends m x.left y.left (all_nodes no_nodes keys) (all_nodes no_nodes aggs) x.spent y.spent ∙ ap (spend m) (no_sum (all_nodes no_nodes keys) (all_nodes no_nodes aggs) (all_nodes-none keys) (all_nodes-none aggs)) in
       node_done nodes _ m (nodes p) z.left empty_rel (r.Group x.made y.made z.made) (r.Group keys aggs p) ws (rw x.is (rw y.is (rw z.is refl)))
       (spends m y.left z.left 0 (nodes p) none z.spent ∙ ap (spend m) (zero-add (nodes p))) (size.nodes-Group keys aggs p)
       (λ le.

@@ -164,6 +164,10 @@ SoundPlain R p = (st : State) → Gives (p st) (Plain R st)
 abbrev pub Sound : {A : Type 0} → (Lexemes → A → Lexemes → Type 0) → (A → ℕ) → Parser A → Type 0
 Sound R size p = (st : State) → Gives (p st) (Read R size st)
 
+-- no node leaves all of a budget
+pub spend_none : (n : ℕ) → n ≡ spend n 0
+spend_none n = omega arith
+
 shown_is : {A : Type 0} (empty x : A) (n : ℕ) → 0 < n → shown empty x n ≡ x
 shown_is empty x n h = ap (λ b. cond b x empty) (lt-ltb 0 n h)
 
@@ -180,7 +184,7 @@ node_read R size old st empty x tree k d spent sized same =
 
 -- one node alone
 pub leaf_read : {A : Type 0} (R : Lexemes → A → Lexemes → Type 0) (size : A → ℕ) (old st : State) (empty tree : A) → R old.rest tree st.rest → st.budget ≡ old.budget → size tree ≡ 1 → Gives (node empty tree st) (Read R size old)
-leaf_read R size old st empty tree d same sized = node_read R size old st empty tree tree 0 d same sized (λ h. refl)
+leaf_read R size old st empty tree d same sized = node_read R size old st empty tree tree 0 d (same ∙ spend_none old.budget) sized (λ h. refl)
 
 -- the nodes of one tree after those of another
 pub spends : (n m k a b : ℕ) → m ≡ spend n a → k ≡ spend m b → k ≡ spend n (a + b)

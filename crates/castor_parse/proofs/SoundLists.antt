@@ -9,14 +9,14 @@ use Rattle.castor_parse.specs.Grammar.{Separated, last, more, MaybeSeparated, no
 use Rattle.castor_parse.specs.Sizes.{all_nodes}
 use Rattle.castor_parse.specs.Parser.{State, Outcome, Parser, and_then, at, spend, eat_symbol, followed, on_comma, separated_from, separated, bracketed, maybe_by, maybe_bracketed}
 use Rattle.castor_parse.proofs.Outcomes.{Gives, gives_some, weaker, step}
-use Rattle.castor_parse.proofs.Readings.{Steps, Ate, Plain, Read, SoundPlain, Sound, expects_symbol, eats_symbol, spends, had_some}
+use Rattle.castor_parse.proofs.Readings.{Steps, Ate, Plain, Read, SoundPlain, Sound, expects_symbol, eats_symbol, spend_none, spends, had_some}
 
 -- trees that have no nodes
 abbrev pub no_nodes : {A : Type 0} → A → ℕ
 no_nodes x = 0
 
 pub plain : {A : Type 0} {R : Lexemes → A → Lexemes → Type 0} {p : Parser A} → SoundPlain R p → Sound R no_nodes p
-plain h st = record { holds = λ x new e. let d = (h st).holds x new e in record { tree = x; derived = d.derived; spent = d.budget; same = λ le. refl } }
+plain h st = record { holds = λ x new e. let d = (h st).holds x new e in record { tree = x; derived = d.derived; spent = d.budget ∙ spend_none st.budget; same = λ le. refl } }
 
 fold-from : (a : ℕ) (xs : List ℕ) → fold ◌+◌ a xs ≡ a + fold ◌+◌ 0 xs
 fold-from a [] = omega arith
@@ -120,7 +120,7 @@ module _ {A : Type 0} (R : Lexemes → A → Lexemes → Type 0) (size : A → �
       gives_some _ [] s2 (record {
         tree = [];
         derived = (s1.rest, (opens.rest, subst (λ us. MaybeSeparated R us [] (g.close_bracket ∷ s2.rest)) (sym ate.rest) no_items));
-        spent = (ate.budget ∙ opens.budget);
+        spent = ate.budget ∙ opens.budget ∙ spend_none st.budget;
         same = λ le. refl;
       })
   maybe_reads st s1 opens false s2 ate =

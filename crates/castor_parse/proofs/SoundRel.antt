@@ -20,7 +20,7 @@ use Rattle.castor_parse.specs.Sizes.{expr_nodes, item_nodes, bound_nodes, all_no
 use Rattle.castor_parse.specs.Parser.{State, Outcome, Parser, and_then, at, spend, first_kind, empty_rel, rel_node, read_item, read_lower, read_upper, aggregated, read_count, read_aggregate, read_agg, falls_by, read_key, read_col, read_alias, read_table_name, read_source, read_scalar, read_rels, read_select, read_filter, read_join, read_binder, read_hash, read_ordered, read_groupby, read_orderby, read_dedup, rel_by, begins_rel, behind_word, read_rel_by, read_rel, rel_at, expr_at, separated, bracketed, maybe_bracketed}
 use Rattle.castor_parse.proofs.Outcomes.{Gives, gives_none, gives_some, weaker, step}
 use Rattle.castor_parse.proofs.NodeLaws as size
-use Rattle.castor_parse.proofs.Readings.{Steps, stepped, Ate, Plain, Read, SoundPlain, Sound, expects_symbol, expects_keyword, eats_symbol, reads_name, node_read, leaf_read, spends, had_some}
+use Rattle.castor_parse.proofs.Readings.{Steps, stepped, Ate, Plain, Read, SoundPlain, Sound, expects_symbol, expects_keyword, eats_symbol, reads_name, node_read, leaf_read, spend_none, spends, had_some}
 use Rattle.castor_parse.proofs.SoundExpr.{SoundExpr, reads_col, reads_alias, expr_reads}
 use Rattle.castor_parse.proofs.SoundLists.{no_nodes, plain, all_nodes-none, Then, followed_reads, step_then, then_passed, InBrackets, separated_reads, bracketed_reads, maybe_bracketed_reads}
 
@@ -87,7 +87,7 @@ module _ (expr : Parser PExpr) (se : SoundExpr g.expr expr) where
   lower_reads_at : (ts : Lexemes) (n : ℕ) → Gives (read_lower expr (at ts n)) (Read IsLower bound_nodes (at ts n))
   unfolding read_lower
   lower_reads_at [] n = gives_none _
-  lower_reads_at (keyword word.Any ∷ ts) n = gives_some _ bound.Any (at ts n) (record { tree = bound.Any; derived = g.any_lower; spent = refl; same = λ le. refl })
+  lower_reads_at (keyword word.Any ∷ ts) n = gives_some _ bound.Any (at ts n) (record { tree = bound.Any; derived = g.any_lower; spent = spend_none n; same = λ le. refl })
   lower_reads_at (symbol sign.Ge ∷ ts) n = step (se (at ts n)) (λ a s1 h. gives_some _ (bound.Incl a) s1 (record { tree = bound.Incl h.tree; derived = g.from h.derived; spent = h.spent; same = λ le. ap bound.Incl (h.same le) }))
   lower_reads_at (symbol sign.Gt ∷ ts) n = step (se (at ts n)) (λ a s1 h. gives_some _ (bound.Excl a) s1 (record { tree = bound.Excl h.tree; derived = g.above h.derived; spent = h.spent; same = λ le. ap bound.Excl (h.same le) }))
   lower_reads_at (t ∷ ts) n = gives_none _
@@ -95,7 +95,7 @@ module _ (expr : Parser PExpr) (se : SoundExpr g.expr expr) where
   upper_reads_at : (ts : Lexemes) (n : ℕ) → Gives (read_upper expr (at ts n)) (Read IsUpper bound_nodes (at ts n))
   unfolding read_upper
   upper_reads_at [] n = gives_none _
-  upper_reads_at (keyword word.Any ∷ ts) n = gives_some _ bound.Any (at ts n) (record { tree = bound.Any; derived = g.any_upper; spent = refl; same = λ le. refl })
+  upper_reads_at (keyword word.Any ∷ ts) n = gives_some _ bound.Any (at ts n) (record { tree = bound.Any; derived = g.any_upper; spent = spend_none n; same = λ le. refl })
   upper_reads_at (symbol sign.Le ∷ ts) n = step (se (at ts n)) (λ a s1 h. gives_some _ (bound.Incl a) s1 (record { tree = bound.Incl h.tree; derived = g.up_to h.derived; spent = h.spent; same = λ le. ap bound.Incl (h.same le) }))
   upper_reads_at (symbol sign.Lt ∷ ts) n = step (se (at ts n)) (λ a s1 h. gives_some _ (bound.Excl a) s1 (record { tree = bound.Excl h.tree; derived = g.below h.derived; spent = h.spent; same = λ le. ap bound.Excl (h.same le) }))
   upper_reads_at (t ∷ ts) n = gives_none _
@@ -237,7 +237,7 @@ module _ (rel : Parser PRel) (expr : Parser PExpr) (sr : Sound IsRel nodes rel) 
   unfolding read_groupby
   groupby_reads st =
       step_then _ sign.Comma st (maybe_bracketed_reads IsCol no_nodes read_col (plain reads_col) st) (λ keys s2 h. step_then _ sign.Comma s2 (maybe_bracketed_reads IsAgg no_nodes read_agg (plain agg_reads) s2) (λ aggs s4 j. step_then _ sign.CloseParen s4 (sr s4) (λ p s6 l.
-      let none : s4.budget ≡ st.budget = spends st.budget s2.budget s4.budget (all_nodes no_nodes h.tree) (all_nodes no_nodes j.tree) h.spent j.spent ∙ ap (spend st.budget) (no_sum (all_nodes no_nodes h.tree) (all_nodes no_nodes j.tree) (all_nodes-none h.tree) (all_nodes-none j.tree)) in
+      let none : s4.budget ≡ spend st.budget 0 = spends st.budget s2.budget s4.budget (all_nodes no_nodes h.tree) (all_nodes no_nodes j.tree) h.spent j.spent ∙ ap (spend st.budget) (no_sum (all_nodes no_nodes h.tree) (all_nodes no_nodes j.tree) (all_nodes-none h.tree) (all_nodes-none j.tree)) in
       node_read (Behind word.Groupby) nodes st s6 empty_rel (r.Group keys aggs p) (r.Group h.tree j.tree l.tree) (nodes l.tree)
       (subst (λ us. Behind word.Groupby us (r.Group h.tree j.tree l.tree) s6.rest) (sym h.derived.1.0)
       (g.groupby (subst (λ us. MaybeSeparated IsCol h.derived.0 h.tree (g.close_bracket ∷ g.comma ∷ us)) j.derived.1.0 h.derived.1.1) j.derived.1.1 l.derived))

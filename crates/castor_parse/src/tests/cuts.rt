@@ -25,4 +25,3 @@ fn tokens_are_the_longest(rt: HostRuntime) -> Result<(), Fail> {
     }
     Ok(())
 }
-

@@ -188,7 +188,12 @@ fn a_token_limit_comes_before_a_fault_of_the_grammar(rt: HostRuntime) -> Result<
     ];
     for case in cases.as_slice() {
         let within = case.0.refusal(alloc, case.1)?;
-        assert_eq!(rt; within, Some(ParseError::Syntax { at: 0 }), "{}", case.0.piece);
+        assert_eq!(rt;
+            within,
+            Some(ParseError::Syntax { at: 0 }),
+            "{}",
+            case.0.piece
+        );
         let past = case.0.refusal(alloc, case.1 + 1)?;
         assert_eq!(rt; past, Some(ParseError::TooLarge), "{}", case.0.piece);
     }
@@ -208,27 +213,102 @@ fn a_fault_of_the_grammar_comes_before_a_tree_that_is_too_large(
 }
 
 #[test]
-fn hostile_texts_end(rt: HostRuntime) -> Result<(), Fail> {
+fn deep_texts_end(rt: HostRuntime) -> Result<(), Fail> {
     let alloc = rt.alloc();
     let cases = [
-        (row("", "(", ""), 1_000_000, Some(ParseError::TooLarge)),
-        (row("query scalar(", "not ", ""), 200_000, Some(ParseError::TooLarge)),
-        (row("query ", "filter(a,", ""), 100_000, Some(ParseError::TooLarge)),
-        // One comment, and 1,048,576 bytes in all.
-        (row("query t --", "x", ""), 1_048_566, None),
-        // 65,536 tokens in one concat, closed and not.
-        (row("query dedup(concat(t", ",t", "))"), 32_764, Some(ParseError::TooLarge)),
-        (row("query concat(t", ",t", ""), 32_766, Some(ParseError::Syntax { at: 65_546 })),
-        (row("query scalar(1", "+1", ")"), 32_700, Some(ParseError::TooLarge)),
-        (row("query scalar(a", " or a", ")"), 32_700, Some(ParseError::TooLarge)),
+        (
+            row("", "((((((((((", ""),
+            100_000,
+            Some(ParseError::TooLarge),
+        ),
+        (
+            row("query scalar(", "not ", ""),
+            200_000,
+            Some(ParseError::TooLarge),
+        ),
+        (
+            row("query ", "filter(a,", ""),
+            100_000,
+            Some(ParseError::TooLarge),
+        ),
         // As deep as parentheses nest.
-        (row("query ", "dedup(", ""), 256, Some(ParseError::Syntax { at: 1542 })),
-        (row("query scalar(", "if(", ""), 255, Some(ParseError::Syntax { at: 778 })),
-        // One long token.
-        (row("query ", "x", ""), 1_000_000, Some(ParseError::TooLarge)),
-        (row("query scalar(", "9", ")"), 1_000_000, Some(ParseError::Syntax { at: 13 })),
-        (row("query scalar('", "''", "')"), 500_000, Some(ParseError::TooLarge)),
-        (row("query scalar('", "''", ""), 500_000, Some(ParseError::Syntax { at: 1_000_014 })),
+        (
+            row("query ", "dedup(", ""),
+            256,
+            Some(ParseError::Syntax { at: 1542 }),
+        ),
+        (
+            row("query scalar(", "if(", ""),
+            255,
+            Some(ParseError::Syntax { at: 778 }),
+        ),
+    ];
+    for case in cases.as_slice() {
+        let found = case.0.refusal(alloc, case.1)?;
+        assert_eq!(rt; found, case.2, "{}", case.0.piece);
+    }
+    Ok(())
+}
+
+#[test]
+fn long_lists_and_chains_end(rt: HostRuntime) -> Result<(), Fail> {
+    let alloc = rt.alloc();
+    let cases = [
+        // 65,536 tokens in one concat, closed and not.
+        (
+            row("query dedup(concat(t", ",t", "))"),
+            32_764,
+            Some(ParseError::TooLarge),
+        ),
+        (
+            row("query concat(t", ",t", ""),
+            32_766,
+            Some(ParseError::Syntax { at: 65_546 }),
+        ),
+        (
+            row("query scalar(1", "+1", ")"),
+            32_700,
+            Some(ParseError::TooLarge),
+        ),
+        (
+            row("query scalar(a", " or a", ")"),
+            32_700,
+            Some(ParseError::TooLarge),
+        ),
+    ];
+    for case in cases.as_slice() {
+        let found = case.0.refusal(alloc, case.1)?;
+        assert_eq!(rt; found, case.2, "{}", case.0.piece);
+    }
+    Ok(())
+}
+
+#[test]
+fn a_long_token_or_comment_ends(rt: HostRuntime) -> Result<(), Fail> {
+    let alloc = rt.alloc();
+    let cases = [
+        // One comment, and 1,048,576 bytes in all.
+        (row("query t --", "xxxxxx", ""), 174_761, None),
+        (
+            row("query ", "xxxxxxxxxx", ""),
+            100_000,
+            Some(ParseError::TooLarge),
+        ),
+        (
+            row("query scalar(", "9999999999", ")"),
+            100_000,
+            Some(ParseError::Syntax { at: 13 }),
+        ),
+        (
+            row("query scalar('", "''''''''''", "')"),
+            100_000,
+            Some(ParseError::TooLarge),
+        ),
+        (
+            row("query scalar('", "''''''''''", ""),
+            100_000,
+            Some(ParseError::Syntax { at: 1_000_014 }),
+        ),
     ];
     for case in cases.as_slice() {
         let found = case.0.refusal(alloc, case.1)?;

@@ -38,7 +38,10 @@ fn each_production_makes_its_tree(rt: HostRuntime) -> Result<(), Fail> {
             "(ordered k r s excl 1 excl 2)",
         ),
         ("query groupby([], [], t)", "(groupby  t)"),
-        ("query groupby([], [count() as n], t)", "(groupby <count as n> t)"),
+        (
+            "query groupby([], [count() as n], t)",
+            "(groupby <count as n> t)",
+        ),
         (
             "query groupby([a, t.b, #2], [count(), sum(a) as s, min(t.b), max(#2)], t)",
             "(groupby [a][t.b][#2]<count><sum a as s><min t.b><max #2> t)",

@@ -1,16 +1,10 @@
 //! Texts that are refused, with their places, and the limits at their edges.
 
-use crate::query::{ParseError, parse};
+use crate::query::ParseError;
+use crate::tests::shown::refusal;
 use std::alloc::{AllocError, Global};
 use std::process::Abort;
 use std::test::Fail;
-
-fn refusal(alloc: Global, text: &[u8]) -> Option<ParseError> {
-    match parse(alloc, text) {
-        Ok(_) => None,
-        Err(refusal) => Some(refusal),
-    }
-}
 
 /// A text of any length: a piece a number of times, and behind what stands in the middle another one as
 /// often.

@@ -366,3 +366,11 @@ pub fn tree_of(alloc: Global, text: &str) -> Result<String, ParseError> {
         Err(why) => Err(why),
     }
 }
+
+/// What a text is refused for.
+pub fn refusal(alloc: Global, text: &[u8]) -> Option<ParseError> {
+    match parse(alloc, text) {
+        Ok(_) => None,
+        Err(refusal) => Some(refusal),
+    }
+}

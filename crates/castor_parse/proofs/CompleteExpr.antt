@@ -1,5 +1,5 @@
 -- What the grammar derives as an expression is read so, where the lexemes after it can't go on with it.
-use Rattle.std.proofs.Common.{◌≡◌, ℕ, zero, suc, ◌+◌, ◌≤◌, ◌<◌, ◌^◌, pos, ◌-ℤ◌, Bool, true, false, cond, List, [], ◌∷◌, length, drop, Option, Some, None, refl, sym, ap, ◌∙◌, subst, arith}
+use Rattle.std.proofs.Common.{◌≡◌, ℕ, zero, suc, ◌+◌, ◌≤◌, ◌<◌, ◌^◌, pos, ◌-ℤ◌, Bool, true, false, cond, List, [], ◌∷◌, length, drop, Option, Some, None, refl, sym, ap, ◌∙◌, arith}
 use Rattle.std.specs.Prelude.{nat_le}
 use Rattle.std.proofs.lemmas.Bool.{lt-ltb, le-leb, leb-true}
 use Rattle.castor_val.specs.declared.value.Ty.TheVariants as ty
@@ -19,10 +19,10 @@ use Rattle.castor_parse.specs.Limits.{opened, are_few_open}
 use Rattle.castor_parse.specs.Grammar as g
 use Rattle.castor_parse.specs.Grammar.{Level, IsCol, IsAlias, IsExpr, Compares}
 use Rattle.castor_parse.specs.Sizes.{expr_nodes}
-use Rattle.castor_parse.specs.Parser.{State, Outcome, Parser, and_then, at, spend, shown, node, kind_of, first_kind, is_symbol, is_keyword, empty_expr, expr_node, eat_symbol, eat_keyword, expect_symbol, expect_keyword, read_name, read_int, read_text, chain_turn, chain_from, chain, or_operator, and_operator, comparison, sum_operator, term_operator, leading_nots, read_nots, negated, compared, int_limit, column_limit, int_literal, negative_literal, text_literal, truth_literal, read_param, numbered_col, named, read_if, parenthesized, read_prim, read_term, read_sum, read_cmp, read_not, read_and, read_or, expr_at, col_number, col_name, read_col, read_alias}
+use Rattle.castor_parse.specs.Parser.{State, Outcome, Parser, and_then, at, spend, shown, node, kind_of, first_kind, is_symbol, is_keyword, empty_expr, expr_node, eat_symbol, eat_keyword, expect_symbol, read_name, read_int, read_text, chain_turn, chain_from, chain, or_operator, and_operator, comparison, sum_operator, term_operator, leading_nots, read_nots, negated, compared, int_limit, column_limit, int_literal, negative_literal, text_literal, truth_literal, read_param, numbered_col, named, read_if, parenthesized, read_prim, read_term, read_sum, read_cmp, read_not, read_and, read_or, expr_at, col_number, col_name, read_col, read_alias}
 use Rattle.castor_parse.proofs.NodeLaws.{expr_nodes-Col, expr_nodes-ScopeAt, expr_nodes-Param, expr_nodes-Lit, expr_nodes-Bin, expr_nodes-Not, expr_nodes-If}
 use Rattle.castor_parse.proofs.Readings.{spend_none, spends, had_some}
-use Rattle.castor_parse.proofs.Past.{Past, both_past, token_past, behind, and_first, and_second, compare_plain, expr_past}
+use Rattle.castor_parse.proofs.Past.{Past, both_past, token_past, and_first, and_second, compare_plain, expr_past}
 
 -- a tree was read, and what was made is it while some of the budget is left
 pub record Done {A : Type 0} (size : A → ℕ) (o : Outcome A) (m : ℕ) (tree : A) (us : Lexemes) : Type 0 where

@@ -1,11 +1,11 @@
 -- What the grammar derives as a list is read so.
-use Rattle.std.proofs.Common.{◌≡◌, ℕ, zero, suc, ◌+◌, ◌-◌, ◌≤◌, ◌<◌, Bool, true, false, List, [], ◌∷◌, ◌++◌, length, Some, refl, sym, ap, ◌∙◌, subst, append_assoc, arith}
+use Rattle.std.proofs.Common.{◌≡◌, ℕ, zero, suc, ◌+◌, ◌-◌, ◌≤◌, ◌<◌, false, List, [], ◌∷◌, ◌++◌, length, Some, refl, sym, ap, ◌∙◌, subst, append_assoc, arith}
 use Rattle.castor_parse.specs.declared.token.Symbol.TheVariants as sign
-use Rattle.castor_parse.specs.Lexemes.{Lexeme, symbol, Lexemes}
+use Rattle.castor_parse.specs.Lexemes.{Lexemes}
 use Rattle.castor_parse.specs.Grammar as g
 use Rattle.castor_parse.specs.Grammar.{Separated, last, more, MaybeSeparated, no_items, some_items}
 use Rattle.castor_parse.specs.Sizes.{all_nodes}
-use Rattle.castor_parse.specs.Parser.{State, Outcome, Parser, and_then, at, spend, first_kind, is_symbol, eat_symbol, expect_symbol, followed, separated_from, separated, bracketed, maybe_bracketed}
+use Rattle.castor_parse.specs.Parser.{Outcome, Parser, and_then, at, spend, first_kind, is_symbol, eat_symbol, expect_symbol, followed, separated_from, separated, bracketed, maybe_bracketed}
 use Rattle.castor_parse.proofs.Readings.{spend_none, spends, had_some}
 use Rattle.castor_parse.proofs.SoundLists.{all_nodes-last, all_nodes-cons}
 use Rattle.castor_parse.proofs.Past.{Past, both_past, token_past}

@@ -1,5 +1,5 @@
 -- What the grammar derives as a relation is read so.
-use Rattle.std.proofs.Common.{◌≡◌, ℕ, zero, suc, ◌+◌, ◌≤◌, ◌<◌, Bool, true, false, List, [], ◌∷◌, Option, Some, None, refl, sym, ap, ◌∙◌, subst, zero-add, arith}
+use Rattle.std.proofs.Common.{◌≡◌, ℕ, zero, suc, ◌+◌, ◌<◌, Bool, false, List, ◌∷◌, Option, Some, refl, ap, ◌∙◌, zero-add, arith}
 use Rattle.std.specs.Prelude.{nat_le}
 use Rattle.std.proofs.lemmas.Bool.{leb-true}
 use Rattle.castor_parse.specs.declared.token.Keyword.{Keyword}
@@ -10,24 +10,23 @@ use Rattle.castor_parse.specs.declared.tree.PCol.{PCol}
 use Rattle.castor_parse.specs.declared.tree.PExpr.{PExpr}
 use Rattle.castor_parse.specs.declared.tree.Item.{Item}
 use Rattle.castor_parse.specs.declared.tree.PAgg.{PAgg}
-use Rattle.castor_parse.specs.declared.tree.PAgg.TheVariants as agg
 use Rattle.castor_parse.specs.declared.tree.PBound.{PBound}
 use Rattle.castor_parse.specs.declared.tree.PBound.TheVariants as bound
 use Rattle.castor_parse.specs.declared.tree.PRel.{PRel}
 use Rattle.castor_parse.specs.declared.tree.PRel.TheVariants as r
-use Rattle.castor_parse.specs.Lexemes.{Lexeme, name, int, text, keyword, symbol, Lexemes}
+use Rattle.castor_parse.specs.Lexemes.{name, keyword, symbol, Lexemes}
 use Rattle.castor_parse.specs.Limits.{opened, are_few_open}
 use Rattle.castor_parse.specs.Grammar as g
 use Rattle.castor_parse.specs.Grammar.{Separated, last, more, MaybeSeparated, IsCol, IsAlias, IsExpr, IsItem, IsAggregate, IsAgg, IsKey, IsLower, IsUpper, IsRel, AreRels}
 use Rattle.castor_parse.specs.Sizes.{expr_nodes, item_nodes, bound_nodes, all_nodes, nodes}
-use Rattle.castor_parse.specs.Parser.{State, Outcome, Parser, and_then, at, spend, first_kind, is_symbol, is_keyword, empty_rel, rel_node, followed, expect_symbol, expect_keyword, read_name, read_item, read_lower, read_upper, aggregated, read_count, read_aggregate, read_agg, falls_by, read_key, read_col, read_alias, read_table_name, read_source, read_scalar, read_rels, read_select, read_filter, read_join, read_binder, read_hash, read_ordered, read_groupby, read_orderby, read_dedup, rel_by, read_rel, rel_at, expr_at, separated, bracketed, maybe_bracketed}
+use Rattle.castor_parse.specs.Parser.{Outcome, Parser, at, spend, first_kind, is_symbol, empty_rel, followed, expect_symbol, expect_keyword, read_name, read_item, read_lower, read_upper, aggregated, read_count, read_aggregate, read_agg, falls_by, read_key, read_col, read_table_name, read_source, read_scalar, read_rels, read_select, read_filter, read_join, read_binder, read_hash, read_ordered, read_groupby, read_orderby, read_dedup, read_rel, rel_at, expr_at, separated, bracketed, maybe_bracketed}
 use Rattle.castor_parse.proofs.NodeLaws as size
 use Rattle.castor_parse.proofs.Readings.{spend_none, spends, had_some}
 use Rattle.castor_parse.proofs.SoundLists.{no_nodes, all_nodes-none}
 use Rattle.castor_parse.proofs.SoundRel.{no_sum}
-use Rattle.castor_parse.proofs.Past.{Past, both_past, token_past, and_first, and_second, in_brackets, expr_past, separated_past, maybe_past, col_past, item_past, agg_past, key_past, lower_past, upper_past, scope_past, rel_past}
+use Rattle.castor_parse.proofs.Past.{Past, token_past, and_first, and_second, in_brackets, expr_past, separated_past, maybe_past, col_past, item_past, agg_past, key_past, lower_past, scope_past, rel_past}
 use Rattle.castor_parse.proofs.CompleteExpr.{Done, goes, node_done, leaf_done, Room, room_past, room_in, strength, HasNoAlias, past_token, col_done, alias_done, expr_done}
-use Rattle.castor_parse.proofs.CompleteLists.{HasNoComma, separated_done, bracketed_done, maybe_done}
+use Rattle.castor_parse.proofs.CompleteLists.{separated_done, bracketed_done, maybe_done}
 
 -- ---- parts
 

@@ -1,5 +1,5 @@
 -- The parser reads a file exactly where the grammar derives one, and that one.
-use Rattle.std.proofs.Common.{◌≡◌, ℕ, zero, suc, ◌+◌, ◌≤◌, ◌<◌, Bool, true, false, ◌&&◌, List, [], ◌∷◌, length, Option, Some, None, refl, sym, ap, ◌∙◌, subst, arith}
+use Rattle.std.proofs.Common.{◌≡◌, ℕ, ◌+◌, ◌≤◌, ◌<◌, true, ◌&&◌, List, [], length, Some, None, sym, ap, ◌∙◌, subst, arith}
 use Rattle.std.specs.Prelude.{nat_le, map, All}
 use Rattle.std.specs.List.{list_all}
 use Rattle.castor_parse.specs.declared.token.Token.{Token}
@@ -8,20 +8,20 @@ use Rattle.castor_parse.specs.declared.tree.File.{File}
 use Rattle.castor_parse.specs.declared.tree.PRel.{PRel}
 use Rattle.castor_parse.specs.declared.query.ParseError.{ParseError}
 use Rattle.castor_parse.specs.declared.query.ParseError.TheVariants as refusal
-use Rattle.castor_parse.specs.Tokens.{Bytes, tokens_of}
+use Rattle.castor_parse.specs.Tokens.{Bytes}
 use Rattle.castor_parse.specs.Lexemes.{Lexemes, lexemes}
 use Rattle.castor_parse.specs.Cut.{Stands, AreInOrder, AreSpansInOrder}
 use Rattle.castor_parse.specs.Formed.{IsFormed}
 use Rattle.castor_parse.specs.Limits.{is_short, are_few_open, are_few_nots, are_within_limits}
 use Rattle.castor_parse.specs.Grammar.{IsFile}
 use Rattle.castor_parse.specs.Sizes.{nodes, depth}
-use Rattle.castor_parse.specs.Parser.{State, Outcome, at, node_budget, spend, read_file}
-use Rattle.castor_parse.specs.Parsed.{AreTokens, IsSmall, IsSmallFile, IsLarge, IsRead, IsUnread, IsRefused, by_tree, by_grammar, HasOneTree}
+use Rattle.castor_parse.specs.Parser.{State, at, node_budget, spend, read_file}
+use Rattle.castor_parse.specs.Parsed.{AreTokens, IsSmallFile, IsLarge, IsRead, IsUnread, IsRefused, by_tree, by_grammar, HasOneTree}
 use Rattle.castor_parse.proofs.TokenLaws.{spans_in_order}
-use Rattle.castor_parse.proofs.Outcomes.{Gives, same_pair}
+use Rattle.castor_parse.proofs.Outcomes.{same_pair}
 use Rattle.castor_parse.proofs.Past.{and_first, and_second}
 use Rattle.castor_parse.proofs.SoundFile.{FileRead, file_reads}
-use Rattle.castor_parse.proofs.CompleteFile.{FileDone, file_done}
+use Rattle.castor_parse.proofs.CompleteFile.{file_done}
 use Rattle.castor_parse.proofs.FormedLaws.{tokens_good, file_formed}
 
 -- within the limits, few parentheses are open

@@ -1,5 +1,5 @@
 -- What a rule of the parser reads stands in the grammar: the steps of that proof.
-use Rattle.std.proofs.Common.{◌≡◌, ℕ, zero, suc, ◌+◌, ◌≤◌, ◌<◌, Bool, true, false, cond, List, [], ◌∷◌, ◌++◌, Option, Some, None, refl, sym, ap, ◌∙◌, subst, rules, arith}
+use Rattle.std.proofs.Common.{◌≡◌, ℕ, ◌+◌, ◌≤◌, ◌<◌, Bool, true, false, cond, [], ◌∷◌, Some, None, refl, ap, ◌∙◌, rules, arith}
 use Rattle.std.specs.Prelude.{nat_le}
 use Rattle.std.proofs.lemmas.Bool.{lt-ltb, leb-true}
 use denote.Enum.Bare.{same_true}
@@ -7,12 +7,9 @@ use Rattle.castor_parse.specs.contracts.token.Keyword as keywords
 use Rattle.castor_parse.specs.contracts.token.Symbol as symbols
 use Rattle.castor_parse.specs.declared.token.Keyword.{Keyword}
 use Rattle.castor_parse.specs.declared.token.Symbol.{Symbol}
-use Rattle.castor_parse.specs.declared.tree.Word.{Word}
-use Rattle.castor_parse.specs.Tokens.{Bytes}
 use Rattle.castor_parse.specs.Lexemes.{Lexeme, name, int, text, keyword, symbol, Lexemes}
-use Rattle.castor_parse.specs.Grammar.{Separated, last, more, MaybeSeparated, no_items, some_items, comma, close_bracket}
-use Rattle.castor_parse.specs.Parser.{State, Outcome, Parser, and_then, at, spend, shown, node, same_keyword, same_symbol, eat_symbol, eat_keyword, expect_symbol, expect_keyword, read_name, read_int, read_text}
-use Rattle.castor_parse.proofs.Outcomes.{Gives, gives_none, gives_some, step}
+use Rattle.castor_parse.specs.Parser.{State, Parser, at, spend, shown, node, same_keyword, same_symbol, eat_symbol, eat_keyword, expect_symbol, expect_keyword, read_name, read_int, read_text}
+use Rattle.castor_parse.proofs.Outcomes.{Gives, gives_none, gives_some}
 
 -- ---- one token
 

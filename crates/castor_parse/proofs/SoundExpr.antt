@@ -1,5 +1,5 @@
 -- What the rules of expressions read stands in the grammar.
-use Rattle.std.proofs.Common.{◌≡◌, ◌≢◌, ℕ, zero, suc, ◌+◌, ◌≤◌, ◌<◌, ◌^◌, pos, ◌-ℤ◌, Bool, true, false, cond, List, [], ◌∷◌, length, drop, Option, Some, None, refl, sym, ap, ◌∙◌, subst, arith}
+use Rattle.std.proofs.Common.{◌≡◌, ℕ, zero, suc, ◌+◌, ◌<◌, pos, ◌-ℤ◌, Bool, true, false, cond, [], ◌∷◌, length, drop, Option, Some, None, refl, sym, ap, ◌∙◌, subst, arith}
 use Rattle.castor_val.specs.declared.value.Ty.TheVariants as ty
 use Rattle.castor_val.specs.declared.value.Value.TheVariants as value
 use Rattle.castor_alg.specs.declared.expr.Op.{Op}
@@ -8,7 +8,6 @@ use Rattle.castor_parse.specs.declared.token.Kind.{Kind}
 use Rattle.castor_parse.specs.declared.token.Keyword.TheVariants as word
 use Rattle.castor_parse.specs.declared.token.Symbol.TheVariants as sign
 use Rattle.castor_parse.specs.declared.tree.Word.{Word}
-use Rattle.castor_parse.specs.declared.tree.PCol.{PCol}
 use Rattle.castor_parse.specs.declared.tree.PCol.TheVariants as col
 use Rattle.castor_parse.specs.declared.tree.PExpr.{PExpr}
 use Rattle.castor_parse.specs.declared.tree.PExpr.TheVariants as e
@@ -16,10 +15,10 @@ use Rattle.castor_parse.specs.Lexemes.{Lexeme, name, int, text, keyword, symbol,
 use Rattle.castor_parse.specs.Grammar as g
 use Rattle.castor_parse.specs.Grammar.{Level, IsCol, IsAlias, IsExpr, Compares}
 use Rattle.castor_parse.specs.Sizes.{expr_nodes}
-use Rattle.castor_parse.specs.Parser.{State, Outcome, Parser, and_then, ◌>>=◌, at, spend, kind_of, first_kind, is_keyword, empty_expr, expr_node, chain_turn, chain_from, chain, or_operator, and_operator, comparison, sum_operator, term_operator, leading_nots, read_nots, negated, compared, read_name, int_limit, column_limit, int_literal, negative_literal, text_literal, truth_literal, read_param, numbered_col, member_by, named_by, named, read_if, parenthesized, read_prim, read_term, read_sum, read_cmp, read_not, read_and, read_or, expr_at, dotted, col_number, col_name, read_col, alias_by, read_alias}
+use Rattle.castor_parse.specs.Parser.{State, Parser, ◌>>=◌, at, spend, kind_of, first_kind, is_keyword, empty_expr, expr_node, chain_turn, chain_from, chain, or_operator, and_operator, comparison, sum_operator, term_operator, leading_nots, read_nots, negated, compared, read_name, int_limit, column_limit, int_literal, negative_literal, text_literal, truth_literal, read_param, numbered_col, member_by, named_by, named, read_if, parenthesized, read_prim, read_term, read_sum, read_cmp, read_not, read_and, read_or, expr_at, dotted, col_number, col_name, read_col, alias_by, read_alias}
 use Rattle.castor_parse.proofs.Outcomes.{Gives, gives_none, gives_some, step}
 use Rattle.castor_parse.proofs.NodeLaws.{expr_nodes-Col, expr_nodes-ScopeAt, expr_nodes-Param, expr_nodes-Lit, expr_nodes-Bin, expr_nodes-Not, expr_nodes-If}
-use Rattle.castor_parse.proofs.Readings.{Steps, stepped, Ate, StepsInt, Plain, Read, SoundPlain, Sound, expects_symbol, eats_symbol, eats_keyword, reads_name, reads_int, reads_text, node_read, leaf_read, spends, had_some, keywords_same}
+use Rattle.castor_parse.proofs.Readings.{Steps, Ate, Plain, Read, SoundPlain, Sound, expects_symbol, eats_symbol, eats_keyword, reads_name, reads_int, reads_text, node_read, leaf_read, spends, had_some, keywords_same}
 
 -- ---- columns, and names after `as`
 

@@ -1,21 +1,19 @@
 -- What the rules of files read stands in the grammar.
-use Rattle.std.proofs.Common.{◌≡◌, ℕ, zero, suc, ◌+◌, ◌≤◌, ◌<◌, Bool, true, false, List, [], ◌∷◌, ◌++◌, length, Option, Some, None, refl, sym, ap, ◌∙◌, subst, arith}
-use Rattle.castor_val.specs.declared.value.Ty.{Ty}
+use Rattle.std.proofs.Common.{◌≡◌, ℕ, zero, suc, ◌<◌, List, [], ◌∷◌, ◌++◌, length, refl, sym, ap, ◌∙◌, subst, arith}
 use Rattle.castor_val.specs.declared.value.Ty.TheVariants as ty
 use Rattle.castor_parse.specs.declared.token.Keyword.TheVariants as word
 use Rattle.castor_parse.specs.declared.token.Symbol.TheVariants as sign
-use Rattle.castor_parse.specs.declared.tree.Word.{Word}
 use Rattle.castor_parse.specs.declared.tree.Decl.{Decl}
 use Rattle.castor_parse.specs.declared.tree.Decl.TheVariants as decl
 use Rattle.castor_parse.specs.declared.tree.PRel.{PRel}
-use Rattle.castor_parse.specs.Lexemes.{Lexeme, name, int, text, keyword, symbol, Lexemes}
+use Rattle.castor_parse.specs.Lexemes.{keyword, Lexemes}
 use Rattle.castor_parse.specs.Grammar as g
 use Rattle.castor_parse.specs.Grammar.{Separated, IsType, IsColumn, IsDecl, AreDecls, IsRel, IsFile}
 use Rattle.castor_parse.specs.Sizes.{all_nodes, nodes}
-use Rattle.castor_parse.specs.Parser.{State, Outcome, Parser, and_then, at, spend, first_kind, read_type, read_column, read_table, read_param_decl, decls_by, decls_from, read_decls, end_of, read_end, read_file, rel_at, nesting, separated}
+use Rattle.castor_parse.specs.Parser.{State, Parser, at, spend, first_kind, read_type, read_column, read_table, read_param_decl, decls_by, decls_from, read_decls, read_end, read_file, nesting}
 use Rattle.castor_parse.proofs.Outcomes.{Gives, gives_none, gives_some, step}
-use Rattle.castor_parse.proofs.Readings.{Steps, Plain, Read, SoundPlain, Sound, expects_symbol, expects_keyword, reads_name}
-use Rattle.castor_parse.proofs.SoundLists.{no_nodes, plain, all_nodes-none, Then, step_then, separated_reads}
+use Rattle.castor_parse.proofs.Readings.{Plain, SoundPlain, expects_symbol, expects_keyword, reads_name}
+use Rattle.castor_parse.proofs.SoundLists.{no_nodes, plain, all_nodes-none, step_then, separated_reads}
 use Rattle.castor_parse.proofs.SoundRel.{rel_reads}
 
 type_reads_at : (ts : Lexemes) (n : ℕ) → Gives (read_type (at ts n)) (Plain IsType (at ts n))

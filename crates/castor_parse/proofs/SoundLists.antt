@@ -1,5 +1,5 @@
 -- What the rules of lists read stands in the grammar.
-use Rattle.std.proofs.Common.{◌≡◌, ℕ, zero, suc, ◌+◌, ◌≤◌, ◌<◌, Bool, true, false, List, [], ◌∷◌, ◌++◌, length, Some, refl, sym, ap, ◌∙◌, subst, zero-add, arith}
+use Rattle.std.proofs.Common.{◌≡◌, ℕ, zero, suc, ◌+◌, ◌<◌, Bool, true, false, List, [], ◌∷◌, ◌++◌, length, refl, sym, ap, ◌∙◌, subst, zero-add, arith}
 use Rattle.std.specs.Prelude.{map, fold}
 use Rattle.castor_parse.specs.declared.token.Symbol.{Symbol}
 use Rattle.castor_parse.specs.declared.token.Symbol.TheVariants as sign
@@ -7,9 +7,9 @@ use Rattle.castor_parse.specs.Lexemes.{Lexeme, symbol, Lexemes}
 use Rattle.castor_parse.specs.Grammar as g
 use Rattle.castor_parse.specs.Grammar.{Separated, last, more, MaybeSeparated, no_items, some_items}
 use Rattle.castor_parse.specs.Sizes.{all_nodes}
-use Rattle.castor_parse.specs.Parser.{State, Outcome, Parser, and_then, at, spend, eat_symbol, followed, on_comma, separated_from, separated, bracketed, maybe_by, maybe_bracketed}
+use Rattle.castor_parse.specs.Parser.{State, Parser, and_then, spend, followed, on_comma, separated_from, separated, bracketed, maybe_by, maybe_bracketed}
 use Rattle.castor_parse.proofs.Outcomes.{Gives, gives_some, weaker, step}
-use Rattle.castor_parse.proofs.Readings.{Steps, Ate, Plain, Read, SoundPlain, Sound, expects_symbol, eats_symbol, spend_none, spends, had_some}
+use Rattle.castor_parse.proofs.Readings.{Steps, Ate, Read, SoundPlain, Sound, expects_symbol, eats_symbol, spend_none, spends, had_some}
 
 -- trees that have no nodes
 abbrev pub no_nodes : {A : Type 0} → A → ℕ

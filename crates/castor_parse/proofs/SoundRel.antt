@@ -1,28 +1,26 @@
 -- What the rules of relations read stands in the grammar.
-use Rattle.std.proofs.Common.{◌≡◌, ℕ, zero, suc, ◌+◌, ◌≤◌, ◌<◌, Bool, true, false, List, [], ◌∷◌, Option, Some, None, refl, sym, ap, ◌∙◌, subst, zero-add, arith}
+use Rattle.std.proofs.Common.{◌≡◌, ℕ, zero, suc, ◌+◌, ◌<◌, Bool, true, false, List, [], ◌∷◌, Some, refl, sym, ap, ◌∙◌, subst, zero-add, arith}
 use Rattle.castor_parse.specs.declared.token.Keyword.{Keyword}
 use Rattle.castor_parse.specs.declared.token.Keyword.TheVariants as word
 use Rattle.castor_parse.specs.declared.token.Symbol.TheVariants as sign
 use Rattle.castor_parse.specs.declared.tree.Word.{Word}
 use Rattle.castor_parse.specs.declared.tree.PCol.{PCol}
 use Rattle.castor_parse.specs.declared.tree.PExpr.{PExpr}
-use Rattle.castor_parse.specs.declared.tree.Item.{Item}
 use Rattle.castor_parse.specs.declared.tree.PAgg.{PAgg}
 use Rattle.castor_parse.specs.declared.tree.PAgg.TheVariants as agg
-use Rattle.castor_parse.specs.declared.tree.PBound.{PBound}
 use Rattle.castor_parse.specs.declared.tree.PBound.TheVariants as bound
 use Rattle.castor_parse.specs.declared.tree.PRel.{PRel}
 use Rattle.castor_parse.specs.declared.tree.PRel.TheVariants as r
-use Rattle.castor_parse.specs.Lexemes.{Lexeme, name, int, text, keyword, symbol, Lexemes}
+use Rattle.castor_parse.specs.Lexemes.{name, int, text, keyword, symbol, Lexemes}
 use Rattle.castor_parse.specs.Grammar as g
 use Rattle.castor_parse.specs.Grammar.{Separated, last, more, MaybeSeparated, IsCol, IsAlias, IsExpr, IsItem, IsAggregate, IsAgg, IsKey, IsLower, IsUpper, IsRel, AreRels}
 use Rattle.castor_parse.specs.Sizes.{expr_nodes, item_nodes, bound_nodes, all_nodes, nodes}
-use Rattle.castor_parse.specs.Parser.{State, Outcome, Parser, and_then, at, spend, first_kind, empty_rel, rel_node, read_item, read_lower, read_upper, aggregated, read_count, read_aggregate, read_agg, falls_by, read_key, read_col, read_alias, read_table_name, read_source, read_scalar, read_rels, read_select, read_filter, read_join, read_binder, read_hash, read_ordered, read_groupby, read_orderby, read_dedup, rel_by, begins_rel, behind_word, read_rel_by, read_rel, rel_at, expr_at, separated, bracketed, maybe_bracketed}
+use Rattle.castor_parse.specs.Parser.{State, Parser, and_then, at, spend, first_kind, empty_rel, rel_node, read_item, read_lower, read_upper, aggregated, read_count, read_aggregate, read_agg, falls_by, read_key, read_col, read_table_name, read_source, read_scalar, read_rels, read_select, read_filter, read_join, read_binder, read_hash, read_ordered, read_groupby, read_orderby, read_dedup, rel_by, begins_rel, behind_word, read_rel, rel_at, expr_at, separated}
 use Rattle.castor_parse.proofs.Outcomes.{Gives, gives_none, gives_some, weaker, step}
 use Rattle.castor_parse.proofs.NodeLaws as size
-use Rattle.castor_parse.proofs.Readings.{Steps, stepped, Ate, Plain, Read, SoundPlain, Sound, expects_symbol, expects_keyword, eats_symbol, reads_name, node_read, leaf_read, spend_none, spends, had_some}
+use Rattle.castor_parse.proofs.Readings.{Plain, Read, SoundPlain, Sound, expects_symbol, expects_keyword, reads_name, node_read, leaf_read, spend_none, spends, had_some}
 use Rattle.castor_parse.proofs.SoundExpr.{SoundExpr, reads_col, reads_alias, expr_reads}
-use Rattle.castor_parse.proofs.SoundLists.{no_nodes, plain, all_nodes-none, Then, followed_reads, step_then, then_passed, InBrackets, separated_reads, bracketed_reads, maybe_bracketed_reads}
+use Rattle.castor_parse.proofs.SoundLists.{no_nodes, plain, all_nodes-none, followed_reads, step_then, separated_reads, bracketed_reads, maybe_bracketed_reads}
 
 -- ---- aggregates and keys
 

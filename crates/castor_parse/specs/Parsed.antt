@@ -1,7 +1,6 @@
 -- What a query file is parsed to, and why a text isn't.
-use Rattle.std.specs.Prelude.{◌≡◌, ◌<◌, ◌≤◌, ℕ, true, false, List, map, length, Option, Some, None, Result, Ok, Err, IsUtf8}
+use Rattle.std.specs.Prelude.{◌≡◌, ◌<◌, ◌≤◌, ℕ, true, false, List, map, length, Some, None, IsUtf8}
 use Rattle.castor_parse.specs.declared.token.Token.{Token}
-use Rattle.castor_parse.specs.declared.token.Span.{Span}
 use Rattle.castor_parse.specs.declared.tree.Decl.{Decl}
 use Rattle.castor_parse.specs.declared.tree.PRel.{PRel}
 use Rattle.castor_parse.specs.declared.tree.File.{File}

@@ -1,7 +1,7 @@
 -- What the grammar derives as an expression is read so, where the lexemes after it can't go on with it.
-use Rattle.std.proofs.Common.{◌≡◌, ℕ, zero, suc, ◌+◌, ◌≤◌, ◌<◌, ◌^◌, pos, ◌-ℤ◌, Bool, true, false, cond, List, [], ◌∷◌, length, drop, Option, Some, None, refl, sym, ap, ◌∙◌, subst, arith}
+use Rattle.std.proofs.Common.{◌≡◌, ℕ, zero, suc, ◌+◌, ◌≤◌, ◌<◌, ◌^◌, pos, ◌-ℤ◌, Bool, true, false, cond, List, [], ◌∷◌, length, drop, Option, Some, None, refl, sym, ap, ◌∙◌, arith}
 use Rattle.std.specs.Prelude.{nat_le}
-use Rattle.std.proofs.lemmas.Bool.{le-leb, leb-true}
+use Rattle.std.proofs.lemmas.Bool.{lt-ltb, le-leb, leb-true}
 use Rattle.castor_val.specs.declared.value.Ty.TheVariants as ty
 use Rattle.castor_val.specs.declared.value.Value.TheVariants as value
 use Rattle.castor_alg.specs.declared.expr.Op.{Op}
@@ -19,39 +19,39 @@ use Rattle.castor_parse.specs.Limits.{opened, are_few_open}
 use Rattle.castor_parse.specs.Grammar as g
 use Rattle.castor_parse.specs.Grammar.{Level, IsCol, IsAlias, IsExpr, Compares}
 use Rattle.castor_parse.specs.Sizes.{expr_nodes}
-use Rattle.castor_parse.specs.Parser.{State, Outcome, Parser, and_then, at, node_limit, tally, shown, node, kind_of, first_kind, is_symbol, is_keyword, empty_expr, expr_node, eat_symbol, eat_keyword, expect_symbol, expect_keyword, read_name, read_int, read_text, chain_turn, chain_from, chain, or_operator, and_operator, comparison, sum_operator, term_operator, leading_nots, read_nots, negated, compared, int_limit, column_limit, int_literal, negative_literal, text_literal, truth_literal, read_param, numbered_col, named, read_if, parenthesized, read_prim, read_term, read_sum, read_cmp, read_not, read_and, read_or, expr_at, col_number, col_name, read_col, read_alias}
+use Rattle.castor_parse.specs.Parser.{State, Outcome, Parser, and_then, at, spend, shown, node, kind_of, first_kind, is_symbol, is_keyword, empty_expr, expr_node, eat_symbol, eat_keyword, expect_symbol, read_name, read_int, read_text, chain_turn, chain_from, chain, or_operator, and_operator, comparison, sum_operator, term_operator, leading_nots, read_nots, negated, compared, int_limit, column_limit, int_literal, negative_literal, text_literal, truth_literal, read_param, numbered_col, named, read_if, parenthesized, read_prim, read_term, read_sum, read_cmp, read_not, read_and, read_or, expr_at, col_number, col_name, read_col, read_alias}
 use Rattle.castor_parse.proofs.NodeLaws.{expr_nodes-Col, expr_nodes-ScopeAt, expr_nodes-Param, expr_nodes-Lit, expr_nodes-Bin, expr_nodes-Not, expr_nodes-If}
-use Rattle.castor_parse.proofs.Readings.{counts, fewer}
-use Rattle.castor_parse.proofs.Past.{Past, both_past, token_past, behind, and_first, and_second, compare_plain, expr_past}
+use Rattle.castor_parse.proofs.Readings.{spend_none, spends, had_some}
+use Rattle.castor_parse.proofs.Past.{Past, both_past, token_past, and_first, and_second, compare_plain, expr_past}
 
--- a tree was read, and what was made is it while the nodes are within the limit
+-- a tree was read, and what was made is it while some of the budget is left
 pub record Done {A : Type 0} (size : A → ℕ) (o : Outcome A) (m : ℕ) (tree : A) (us : Lexemes) : Type 0 where
   pub made : A
-  pub count : ℕ
-  pub is : o ≡ Some (made, at us count)
-  pub counted : tally count 0 ≡ tally m (size tree)
-  pub same : count ≤ node_limit → made ≡ tree
+  pub left : ℕ
+  pub is : o ≡ Some (made, at us left)
+  pub spent : left ≡ spend m (size tree)
+  pub same : 0 < left → made ≡ tree
 
-shown_is : {A : Type 0} (empty x : A) (n : ℕ) → n ≤ node_limit → shown empty x n ≡ x
-shown_is empty x n h = ap (λ b. cond b x empty) (le-leb n node_limit h)
+shown_is : {A : Type 0} (empty x : A) (n : ℕ) → 0 < n → shown empty x n ≡ x
+shown_is empty x n h = ap (λ b. cond b x empty) (lt-ltb 0 n h)
 
 -- one more node, around a tree of k nodes
-pub node_done : {A : Type 0} (size : A → ℕ) (o : Outcome A) (m k c : ℕ) (empty x tree : A) (us : Lexemes) → o ≡ node empty x (at us c) → tally c 0 ≡ tally m k → size tree ≡ 1 + k → (c ≤ node_limit → x ≡ tree) → Done size o m tree us
+pub node_done : {A : Type 0} (size : A → ℕ) (o : Outcome A) (m k c : ℕ) (empty x tree : A) (us : Lexemes) → o ≡ node empty x (at us c) → c ≡ spend m k → size tree ≡ 1 + k → (0 < c → x ≡ tree) → Done size o m tree us
 unfolding node
-node_done size o m k c empty x tree us is counted sized same = record {
-  made = shown empty x (tally c 1);
-  count = tally c 1;
+node_done size o m k c empty x tree us is spent sized same = record {
+  made = shown empty x (spend c 1);
+  left = spend c 1;
   is = is;
-  counted = omega (arith, counted, sized);
-  same = λ h. shown_is empty x (tally c 1) h ∙ same (omega (arith, h));
+  spent = omega (arith, spent, sized);
+  same = λ h. shown_is empty x (spend c 1) h ∙ same (omega (arith, h));
 }
 
 -- one node alone
 pub leaf_done : {A : Type 0} (size : A → ℕ) (o : Outcome A) (m : ℕ) (empty tree : A) (us : Lexemes) → o ≡ node empty tree (at us m) → size tree ≡ 1 → Done size o m tree us
-leaf_done size o m empty tree us is sized = node_done size o m 0 m empty tree tree us is refl sized (λ h. refl)
+leaf_done size o m empty tree us is sized = node_done size o m 0 m empty tree tree us is (spend_none m) sized (λ h. refl)
 
 -- the steps after what was read
-pub goes : {A B : Type 0} {size : A → ℕ} {o : Outcome A} {m : ℕ} {tree : A} {us : Lexemes} (d : Done size o m tree us) (f : A → Parser B) (r : Outcome B) → f d.made (at us d.count) ≡ r → and_then o f ≡ r
+pub goes : {A B : Type 0} {size : A → ℕ} {o : Outcome A} {m : ℕ} {tree : A} {us : Lexemes} (d : Done size o m tree us) (f : A → Parser B) (r : Outcome B) → f d.made (at us d.left) ≡ r → and_then o f ≡ r
 goes d f r h = rw d.is h
 
 -- ---- room for parentheses
@@ -152,12 +152,12 @@ compare_is g.ge = refl
 -- a chain was read up to its last operator so far
 pub record Chained (operator : Option Kind → Option Op) (next : Parser PExpr) (o : Outcome PExpr) (m : ℕ) (tree : PExpr) (us : Lexemes) : Type 0 where
   pub made : PExpr
-  pub count : ℕ
+  pub left : ℕ
   pub turns : ℕ
   pub enough : length us ≤ turns
-  pub is : o ≡ chain_from operator next turns made (at us count)
-  pub counted : tally count 0 ≡ tally m (expr_nodes tree)
-  pub same : count ≤ node_limit → made ≡ tree
+  pub is : o ≡ chain_from operator next turns made (at us left)
+  pub spent : left ≡ spend m (expr_nodes tree)
+  pub same : 0 < left → made ≡ tree
 
 module _ (operator : Option Kind → Option Op) (next : Parser PExpr) where
   chain_stops : (turns : ℕ) (x : PExpr) (us : Lexemes) (c : ℕ) → operator (first_kind us) ≡ None → chain_from operator next turns x (at us c) ≡ Some (x, at us c)
@@ -166,35 +166,35 @@ module _ (operator : Option Kind → Option Op) (next : Parser PExpr) where
   chain_stops (suc n) x us c stops = ap (λ o. chain_turn o next (chain_from operator next n) x (at us c)) stops
 
   chained_done : (o : Outcome PExpr) (m : ℕ) (tree : PExpr) (us : Lexemes) → Chained operator next o m tree us → operator (first_kind us) ≡ None → Done expr_nodes o m tree us
-  chained_done o m tree us h stops = record { made = h.made; count = h.count; is = h.is ∙ chain_stops h.turns h.made us h.count stops; counted = h.counted; same = h.same }
+  chained_done o m tree us h stops = record { made = h.made; left = h.left; is = h.is ∙ chain_stops h.turns h.made us h.left stops; spent = h.spent; same = h.same }
 
   chain_begins : (ts : Lexemes) (m : ℕ) (tree : PExpr) (us : Lexemes) → Done expr_nodes (next (at ts m)) m tree us → Chained operator next (chain operator next (at ts m)) m tree us
   unfolding chain
-  chain_begins ts m tree us d = record { made = d.made; count = d.count; turns = length us; enough = omega arith; is = goes d _ _ refl; counted = d.counted; same = d.same }
+  chain_begins ts m tree us d = record { made = d.made; left = d.left; turns = length us; enough = omega arith; is = goes d _ _ refl; spent = d.spent; same = d.same }
 
   chain_turns : (turns : ℕ) (x : PExpr) (t : Lexeme) (us : Lexemes) (c : ℕ) (o : Op) (y : PExpr) (vs : Lexemes) (k : ℕ) → operator (Some (kind_of t)) ≡ Some o → next (at us c) ≡ Some (y, at vs k) → chain_from operator next (suc turns) x (at (t ∷ us) c) ≡ and_then (expr_node (e.Bin o x y) (at vs k)) (chain_from operator next turns)
   unfolding chain_from
   chain_turns turns x t us c o y vs k joins is = ap (λ j. chain_turn j next (chain_from operator next turns) x (at (t ∷ us) c)) joins ∙ rw is refl
 
-  chained_with : (o : Outcome PExpr) (m : ℕ) (a : PExpr) (t : Lexeme) (us : Lexemes) (j : Op) (b : PExpr) (vs : Lexemes) (x : PExpr) (c turns : ℕ) → length (t ∷ us) ≤ turns → o ≡ chain_from operator next turns x (at (t ∷ us) c) → tally c 0 ≡ tally m (expr_nodes a) → (c ≤ node_limit → x ≡ a) → operator (Some (kind_of t)) ≡ Some j → Done expr_nodes (next (at us c)) c b vs → length vs ≤ length us → Chained operator next o m (e.Bin j a b) vs
+  chained_with : (o : Outcome PExpr) (m : ℕ) (a : PExpr) (t : Lexeme) (us : Lexemes) (j : Op) (b : PExpr) (vs : Lexemes) (x : PExpr) (c turns : ℕ) → length (t ∷ us) ≤ turns → o ≡ chain_from operator next turns x (at (t ∷ us) c) → c ≡ spend m (expr_nodes a) → (0 < c → x ≡ a) → operator (Some (kind_of t)) ≡ Some j → Done expr_nodes (next (at us c)) c b vs → length vs ≤ length us → Chained operator next o m (e.Bin j a b) vs
   unfolding node
-  chained_with o m a t us j b vs x c zero enough is counted same joins d shorter = absurd (omega arith)
-  chained_with o m a t us j b vs x c (suc turns) enough is counted same joins d shorter = record {
-    made = shown empty_expr (e.Bin j x d.made) (tally d.count 1);
-    count = tally d.count 1;
+  chained_with o m a t us j b vs x c zero enough is spent same joins d shorter = absurd (omega arith)
+  chained_with o m a t us j b vs x c (suc turns) enough is spent same joins d shorter = record {
+    made = shown empty_expr (e.Bin j x d.made) (spend d.left 1);
+    left = spend d.left 1;
     turns = turns;
     enough = omega (arith, enough, shorter);
-    is = is ∙ chain_turns turns x t us c j d.made vs d.count joins d.is;
-    counted = omega (arith, counts m c d.count (expr_nodes a) (expr_nodes b) counted d.counted, expr_nodes-Bin j a b);
+    is = is ∙ chain_turns turns x t us c j d.made vs d.left joins d.is;
+    spent = omega (arith, spends m c d.left (expr_nodes a) (expr_nodes b) spent d.spent, expr_nodes-Bin j a b);
     same = λ h.
-        let within : d.count ≤ node_limit = omega (arith, h) in
-        let p = same (fewer c d.count (expr_nodes b) d.counted within) in
+        let within : 0 < d.left = omega (arith, h) in
+        let p = same (had_some c d.left (expr_nodes b) d.spent within) in
         let q = d.same within in
-        shown_is empty_expr (e.Bin j x d.made) (tally d.count 1) h ∙ (λ i. e.Bin j (p i) (q i));
+        shown_is empty_expr (e.Bin j x d.made) (spend d.left 1) h ∙ (λ i. e.Bin j (p i) (q i));
   }
 
   chained_more : (o : Outcome PExpr) (m : ℕ) (a : PExpr) (t : Lexeme) (us : Lexemes) (j : Op) (b : PExpr) (vs : Lexemes) → Chained operator next o m a (t ∷ us) → operator (Some (kind_of t)) ≡ Some j → ((c : ℕ) → Done expr_nodes (next (at us c)) c b vs) → length vs ≤ length us → Chained operator next o m (e.Bin j a b) vs
-  chained_more o m a t us j b vs h joins d shorter = chained_with o m a t us j b vs h.made h.count h.turns h.enough h.is h.counted h.same joins (d h.count) shorter
+  chained_more o m a t us j b vs h joins d shorter = chained_with o m a t us j b vs h.made h.left h.turns h.enough h.is h.spent h.same joins (d h.left) shorter
 
 -- ---- `not`
 
@@ -244,7 +244,7 @@ no_not (g.prim_paren d) = refl
 negated-last : (n : ℕ) (a : PExpr) (st : State) → negated (suc n) a st ≡ and_then (negated n a st) (λ b. expr_node (e.Not b))
 unfolding negated node
 negated-last zero a st = refl
-negated-last (suc n) a st = negated-last n (shown empty_expr (e.Not a) (tally st.nodes 1)) (at st.rest (tally st.nodes 1))
+negated-last (suc n) a st = negated-last n (shown empty_expr (e.Not a) (spend st.budget 1)) (at st.rest (spend st.budget 1))
 
 assoc : {A B C : Type 0} (o : Outcome A) (f : A → Parser B) (h : B → Parser C) → and_then (and_then o f) h ≡ and_then o (λ x st. and_then (f x st) h)
 assoc None f h = refl
@@ -307,22 +307,22 @@ module _ {ts : Lexemes} {a : PExpr} {us : Lexemes} where
   inner_done h (suc n) k room s m = or_done h n k room s m
 
 -- a comparison of two sums
-compared_done : (n m : ℕ) (ts : Lexemes) (a b : PExpr) (t : Lexeme) (us vs : Lexemes) (o : Op) → Compares t o → (d : Done expr_nodes (read_sum (expr_at n) (at ts m)) m a (t ∷ us)) → Done expr_nodes (read_sum (expr_at n) (at us d.count)) d.count b vs → Done expr_nodes (read_cmp (expr_at n) (at ts m)) m (e.Bin o a b) vs
+compared_done : (n m : ℕ) (ts : Lexemes) (a b : PExpr) (t : Lexeme) (us vs : Lexemes) (o : Op) → Compares t o → (d : Done expr_nodes (read_sum (expr_at n) (at ts m)) m a (t ∷ us)) → Done expr_nodes (read_sum (expr_at n) (at us d.left)) d.left b vs → Done expr_nodes (read_cmp (expr_at n) (at ts m)) m (e.Bin o a b) vs
 unfolding read_cmp
 compared_done n m ts a b t us vs o c d f =
-    node_done expr_nodes _ m (expr_nodes a + expr_nodes b) f.count empty_expr (e.Bin o d.made f.made) (e.Bin o a b) vs
-    (goes d _ _ (ap (λ j. compared j (read_sum (expr_at n)) d.made (at (t ∷ us) d.count)) (compare_is c) ∙ goes f _ _ refl))
-    (counts m d.count f.count (expr_nodes a) (expr_nodes b) d.counted f.counted)
+    node_done expr_nodes _ m (expr_nodes a + expr_nodes b) f.left empty_expr (e.Bin o d.made f.made) (e.Bin o a b) vs
+    (goes d _ _ (ap (λ j. compared j (read_sum (expr_at n)) d.made (at (t ∷ us) d.left)) (compare_is c) ∙ goes f _ _ refl))
+    (spends m d.left f.left (expr_nodes a) (expr_nodes b) d.spent f.spent)
     (expr_nodes-Bin o a b)
-    (λ le. let p = d.same (fewer d.count f.count (expr_nodes b) f.counted le) in let q = f.same le in λ i. e.Bin o (p i) (q i))
+    (λ le. let p = d.same (had_some d.left f.left (expr_nodes b) f.spent le) in let q = f.same le in λ i. e.Bin o (p i) (q i))
 
 plain_cmp : (n m : ℕ) (ts : Lexemes) (a : PExpr) (us : Lexemes) → strength us < 4 → Done expr_nodes (read_sum (expr_at n) (at ts m)) m a us → Done expr_nodes (read_cmp (expr_at n) (at ts m)) m a us
 unfolding read_cmp
 plain_cmp n m ts a us s d = record {
   made = d.made;
-  count = d.count;
-  is = goes d _ _ (ap (λ j. compared j (read_sum (expr_at n)) d.made (at us d.count)) (cmp_stops us s));
-  counted = d.counted;
+  left = d.left;
+  is = goes d _ _ (ap (λ j. compared j (read_sum (expr_at n)) d.made (at us d.left)) (cmp_stops us s));
+  spent = d.spent;
   same = d.same;
 }
 
@@ -330,20 +330,20 @@ not_of_cmp : (n m : ℕ) (ts : Lexemes) (a : PExpr) (us : Lexemes) → leading_n
 unfolding read_not read_nots negated
 not_of_cmp n m ts a us none d = record {
   made = d.made;
-  count = d.count;
+  left = d.left;
   is = ap (λ j. and_then (read_cmp (expr_at n) (at (drop j ts) m)) (negated j)) none ∙ goes d (negated 0) _ refl;
-  counted = d.counted;
+  spent = d.spent;
   same = d.same;
 }
 
 not_of_not : (n m : ℕ) (ts : Lexemes) (a : PExpr) (us : Lexemes) → Done expr_nodes (read_not (expr_at n) (at ts m)) m a us → Done expr_nodes (read_not (expr_at n) (at (keyword word.Not ∷ ts) m)) m (e.Not a) us
 unfolding read_not read_nots
 not_of_not n m ts a us d =
-    node_done expr_nodes _ m (expr_nodes a) d.count empty_expr (e.Not d.made) (e.Not a) us
+    node_done expr_nodes _ m (expr_nodes a) d.left empty_expr (e.Not d.made) (e.Not a) us
     ((λ i. and_then (read_cmp (expr_at n) (at (drop (leading_nots ts) ts) m)) (λ b st. negated-last (leading_nots ts) b st i))
     ∙ sym (assoc (read_cmp (expr_at n) (at (drop (leading_nots ts) ts) m)) (negated (leading_nots ts)) (λ b. expr_node (e.Not b)))
     ∙ goes d (λ b. expr_node (e.Not b)) _ refl)
-    d.counted (expr_nodes-Not a) (λ le. ap e.Not (d.same le))
+    d.spent (expr_nodes-Not a) (λ le. ap e.Not (d.same le))
 
 leaf : (o : Outcome PExpr) (m : ℕ) (tree : PExpr) (us : Lexemes) → o ≡ expr_node tree (at us m) → expr_nodes tree ≡ 1 → Done expr_nodes o m tree us
 leaf o m tree us is sized = leaf_done expr_nodes o m empty_expr tree us is sized
@@ -379,23 +379,23 @@ word_leaves inner ts m = (
   ),
 )
 
-if_done : (inner : Parser PExpr) (ts : Lexemes) (c a b : PExpr) (us vs ws : Lexemes) (m : ℕ) → (d : Done expr_nodes (inner (at ts m)) m c (g.comma ∷ us)) → (f : Done expr_nodes (inner (at us d.count)) d.count a (g.comma ∷ vs)) → Done expr_nodes (inner (at vs f.count)) f.count b (g.close_paren ∷ ws) → Done expr_nodes (read_prim inner (at (keyword word.If ∷ g.open_paren ∷ ts) m)) m (e.If c a b) ws
+if_done : (inner : Parser PExpr) (ts : Lexemes) (c a b : PExpr) (us vs ws : Lexemes) (m : ℕ) → (d : Done expr_nodes (inner (at ts m)) m c (g.comma ∷ us)) → (f : Done expr_nodes (inner (at us d.left)) d.left a (g.comma ∷ vs)) → Done expr_nodes (inner (at vs f.left)) f.left b (g.close_paren ∷ ws) → Done expr_nodes (read_prim inner (at (keyword word.If ∷ g.open_paren ∷ ts) m)) m (e.If c a b) ws
 unfolding read_prim read_if expect_symbol
 if_done inner ts c a b us vs ws m d f h =
-    node_done expr_nodes _ m (expr_nodes c + (expr_nodes a + expr_nodes b)) h.count empty_expr (e.If d.made f.made h.made) (e.If c a b) ws
+    node_done expr_nodes _ m (expr_nodes c + (expr_nodes a + expr_nodes b)) h.left empty_expr (e.If d.made f.made h.made) (e.If c a b) ws
     (goes d _ _ (goes f _ _ (goes h _ _ refl)))
-    (counts m d.count h.count (expr_nodes c) (expr_nodes a + expr_nodes b) d.counted (counts d.count f.count h.count (expr_nodes a) (expr_nodes b) f.counted h.counted))
+    (spends m d.left h.left (expr_nodes c) (expr_nodes a + expr_nodes b) d.spent (spends d.left f.left h.left (expr_nodes a) (expr_nodes b) f.spent h.spent))
     (expr_nodes-If c a b)
     (λ le.
-    let l2 = fewer f.count h.count (expr_nodes b) h.counted le in
-    let p = d.same (fewer d.count f.count (expr_nodes a) f.counted l2) in
+    let l2 = had_some f.left h.left (expr_nodes b) h.spent le in
+    let p = d.same (had_some d.left f.left (expr_nodes a) f.spent l2) in
     let q = f.same l2 in
     let r = h.same le in
     λ i. e.If (p i) (q i) (r i))
 
 paren_done : (inner : Parser PExpr) (ts : Lexemes) (a : PExpr) (us : Lexemes) (m : ℕ) → Done expr_nodes (inner (at ts m)) m a (g.close_paren ∷ us) → Done expr_nodes (read_prim inner (at (g.open_paren ∷ ts) m)) m a us
 unfolding read_prim parenthesized expect_symbol
-paren_done inner ts a us m d = record { made = d.made; count = d.count; is = goes d _ _ refl; counted = d.counted; same = d.same }
+paren_done inner ts a us m d = record { made = d.made; left = d.left; is = goes d _ _ refl; spent = d.spent; same = d.same }
 
 pub past_token : {ts us : Lexemes} (t : Lexeme) → ((k : ℕ) → opened k t ≡ k) → Past ts (t ∷ us) → Past ts us
 past_token {ts} {us} t plain p = both_past p (token_past t us plain)
@@ -413,7 +413,7 @@ reach (g.not_cmp {ts} {us} {a} d) n k room m = λ s. not_of_cmp n m ts a us (no_
 reach (g.cmp_sum {ts} {us} {a} d) n k room m = λ s. plain_cmp n m ts a us s (sum_done (reach d) n k room (omega arith) m)
 reach (g.compares {ts} {us} {vs} {t} {o} {a} {b} c d f) n k room m = λ s.
     let first = sum_done (reach d) n k room (omega (arith, compare_strength us c)) m in
-    compared_done n m ts a b t us vs o c first (sum_done (reach f) n k (room_past (past_token t (compare_plain c) (expr_past d)) room) (omega arith) first.count)
+    compared_done n m ts a b t us vs o c first (sum_done (reach f) n k (room_past (past_token t (compare_plain c) (expr_past d)) room) (omega arith) first.left)
 reach (g.sum_term {ts} {us} {a} d) n k room m = λ s. chain_begins sum_operator (read_term (expr_at n)) ts m a us (term_done (reach d) n k room (omega arith) m)
 reach (g.sum_plus {ts} {us} {vs} {a} {b} d f) n k room m = λ s.
     chained_more sum_operator (read_term (expr_at n)) _ m a (symbol sign.Plus) us op.Add b vs (reach d n k room m (omega arith)) refl (λ c. term_done (reach f) n k (room_past (past_token (symbol sign.Plus) (λ j. refl) (expr_past d)) room) (omega arith) c) (expr_past f).shorter
@@ -439,8 +439,8 @@ reach (g.prim_if {ts} {us} {vs} {ws} {c} {a} {b} d f h) n k room m = λ s.
     let after_c = room_past (past_token g.comma (λ j. refl) (expr_past d)) inside in
     let after_a = room_past (past_token g.comma (λ j. refl) (expr_past f)) after_c in
     let x = inner_done (reach d) n (k + 1) inside (omega arith) m in
-    let y = inner_done (reach f) n (k + 1) after_c (omega arith) x.count in
-    if_done (expr_at n) ts c a b us vs ws m x y (inner_done (reach h) n (k + 1) after_a (omega arith) y.count)
+    let y = inner_done (reach f) n (k + 1) after_c (omega arith) x.left in
+    if_done (expr_at n) ts c a b us vs ws m x y (inner_done (reach h) n (k + 1) after_a (omega arith) y.left)
 reach (g.prim_paren {ts} {us} {a} d) n k room m = λ s. paren_done (expr_at n) ts a us m (inner_done (reach d) n (k + 1) (room_in room) (omega arith) m)
 
 -- an expression is read where the lexemes after it can't go on with it

@@ -1,12 +1,12 @@
 -- What the grammar derives as a list is read so.
-use Rattle.std.proofs.Common.{◌≡◌, ℕ, zero, suc, ◌+◌, ◌-◌, ◌≤◌, Bool, true, false, List, [], ◌∷◌, ◌++◌, length, Some, refl, sym, ap, ◌∙◌, subst, append_assoc, arith}
+use Rattle.std.proofs.Common.{◌≡◌, ℕ, zero, suc, ◌+◌, ◌-◌, ◌≤◌, ◌<◌, false, List, [], ◌∷◌, ◌++◌, length, Some, refl, sym, ap, ◌∙◌, subst, append_assoc, arith}
 use Rattle.castor_parse.specs.declared.token.Symbol.TheVariants as sign
-use Rattle.castor_parse.specs.Lexemes.{Lexeme, symbol, Lexemes}
+use Rattle.castor_parse.specs.Lexemes.{Lexemes}
 use Rattle.castor_parse.specs.Grammar as g
 use Rattle.castor_parse.specs.Grammar.{Separated, last, more, MaybeSeparated, no_items, some_items}
 use Rattle.castor_parse.specs.Sizes.{all_nodes}
-use Rattle.castor_parse.specs.Parser.{State, Outcome, Parser, and_then, at, node_limit, tally, first_kind, is_symbol, eat_symbol, expect_symbol, followed, separated_from, separated, bracketed, maybe_bracketed}
-use Rattle.castor_parse.proofs.Readings.{counts, fewer}
+use Rattle.castor_parse.specs.Parser.{Outcome, Parser, and_then, at, spend, first_kind, is_symbol, eat_symbol, expect_symbol, followed, separated_from, separated, bracketed, maybe_bracketed}
+use Rattle.castor_parse.proofs.Readings.{spend_none, spends, had_some}
 use Rattle.castor_parse.proofs.SoundLists.{all_nodes-last, all_nodes-cons}
 use Rattle.castor_parse.proofs.Past.{Past, both_past, token_past}
 use Rattle.castor_parse.proofs.CompleteExpr.{Done, goes}
@@ -40,10 +40,10 @@ module _ {A : Type 0} (R : Lexemes → A → Lexemes → Type 0) (size : A → �
   list_stops (suc n) found us c none = rw none refl
 
   -- one item behind those that were found
-  one_more : (found tree : List A) (m c : ℕ) (x : A) (us : Lexemes) → tally c 0 ≡ tally m (all_nodes size tree) → (c ≤ node_limit → found ≡ tree) → (o : Outcome A) → (d : Done size o c x us) → (tally d.count 0 ≡ tally m (all_nodes size (tree ++ x ∷ []))) × (d.count ≤ node_limit → found ++ d.made ∷ [] ≡ tree ++ x ∷ [])
-  one_more found tree m c x us counted same o d = (
-    counts m c d.count (all_nodes size tree) (size x) counted d.counted ∙ ap (tally m) (sym (all_nodes-last size tree x)),
-    (λ le. let p = same (fewer c d.count (size x) d.counted le) in let q = d.same le in λ i. p i ++ q i ∷ []),
+  one_more : (found tree : List A) (m c : ℕ) (x : A) (us : Lexemes) → c ≡ spend m (all_nodes size tree) → (0 < c → found ≡ tree) → (o : Outcome A) → (d : Done size o c x us) → (d.left ≡ spend m (all_nodes size (tree ++ x ∷ []))) × (0 < d.left → found ++ d.made ∷ [] ≡ tree ++ x ∷ [])
+  one_more found tree m c x us spent same o d = (
+    spends m c d.left (all_nodes size tree) (size x) spent d.spent ∙ ap (spend m) (sym (all_nodes-last size tree x)),
+    (λ le. let p = same (had_some c d.left (size x) d.spent le) in let q = d.same le in λ i. p i ++ q i ∷ []),
   )
 
   -- a comma was passed, and the items behind it were read
@@ -53,22 +53,22 @@ module _ {A : Type 0} (R : Lexemes → A → Lexemes → Type 0) (size : A → �
   after_comma (suc k) found us c r enough h = h k (omega arith) refl
 
   -- the items from one on, behind those that were found
-  next_items : {ts us : Lexemes} {xs : List A} → Separated R ts xs us → Fits ts → Follows us → HasNoComma us → (n : ℕ) → length ts ≤ n → (found tree : List A) (m c : ℕ) → tally c 0 ≡ tally m (all_nodes size tree) → (c ≤ node_limit → found ≡ tree) → Done (all_nodes size) (and_then (item (at ts c)) (λ x. separated_from item n (found ++ x ∷ []))) m (tree ++ xs) us
-  next_items (last {ts = ts} {us = us} {x = x} d) fits follows none n enough found tree m c counted same =
+  next_items : {ts us : Lexemes} {xs : List A} → Separated R ts xs us → Fits ts → Follows us → HasNoComma us → (n : ℕ) → length ts ≤ n → (found tree : List A) (m c : ℕ) → c ≡ spend m (all_nodes size tree) → (0 < c → found ≡ tree) → Done (all_nodes size) (and_then (item (at ts c)) (λ x. separated_from item n (found ++ x ∷ []))) m (tree ++ xs) us
+  next_items (last {ts = ts} {us = us} {x = x} d) fits follows none n enough found tree m c spent same =
       let one = done ts us x d fits follows c in
-      let kept = one_more found tree m c x us counted same (item (at ts c)) one in
-      record { made = found ++ one.made ∷ []; count = one.count; is = goes one _ _ (list_stops n (found ++ one.made ∷ []) us one.count none); counted = kept.0; same = kept.1 }
-  next_items (more {ts = ts} {us = us} {vs = vs} {x = x} {xs = xs} d s) fits follows none n enough found tree m c counted same =
+      let kept = one_more found tree m c x us spent same (item (at ts c)) one in
+      record { made = found ++ one.made ∷ []; left = one.left; is = goes one _ _ (list_stops n (found ++ one.made ∷ []) us one.left none); spent = kept.0; same = kept.1 }
+  next_items (more {ts = ts} {us = us} {vs = vs} {x = x} {xs = xs} d s) fits follows none n enough found tree m c spent same =
       let one = done ts (g.comma ∷ us) x d fits (comma_follows us) c in
-      let kept = one_more found tree m c x (g.comma ∷ us) counted same (item (at ts c)) one in
+      let kept = one_more found tree m c x (g.comma ∷ us) spent same (item (at ts c)) one in
       let shorter = (past ts (g.comma ∷ us) x d).shorter in
       let here = fits_past ts us (both_past (past ts (g.comma ∷ us) x d) (token_past g.comma us (λ k. refl))) fits in
-      let rest = next_items s here follows none (n - 1) (omega (arith, enough, shorter)) (found ++ one.made ∷ []) (tree ++ x ∷ []) m one.count kept.0 kept.1 in
+      let rest = next_items s here follows none (n - 1) (omega (arith, enough, shorter)) (found ++ one.made ∷ []) (tree ++ x ∷ []) m one.left kept.0 kept.1 in
       record {
         made = rest.made;
-        count = rest.count;
-        is = goes one _ _ (after_comma n (found ++ one.made ∷ []) us one.count _ (omega (arith, enough, shorter)) (λ k le e. ap (λ j. and_then (item (at us one.count)) (λ y. separated_from item j ((found ++ one.made ∷ []) ++ y ∷ []))) (less n k e) ∙ rest.is));
-        counted = rest.counted ∙ ap (λ ys. tally m (all_nodes size ys)) (append_assoc tree (x ∷ []) xs);
+        left = rest.left;
+        is = goes one _ _ (after_comma n (found ++ one.made ∷ []) us one.left _ (omega (arith, enough, shorter)) (λ k le e. ap (λ j. and_then (item (at us one.left)) (λ y. separated_from item j ((found ++ one.made ∷ []) ++ y ∷ []))) (less n k e) ∙ rest.is));
+        spent = rest.spent ∙ ap (λ ys. spend m (all_nodes size ys)) (append_assoc tree (x ∷ []) xs);
         same = λ le. rest.same le ∙ append_assoc tree (x ∷ []) xs;
       }
 
@@ -78,20 +78,20 @@ module _ {A : Type 0} (R : Lexemes → A → Lexemes → Type 0) (size : A → �
       let one = done ts us x d fits follows m in
       record {
         made = one.made ∷ [];
-        count = one.count;
-        is = goes one _ _ (list_stops (length us) (one.made ∷ []) us one.count none);
-        counted = one.counted ∙ ap (tally m) (sym (all_nodes-cons size x [] ∙ add_zero (size x)));
+        left = one.left;
+        is = goes one _ _ (list_stops (length us) (one.made ∷ []) us one.left none);
+        spent = one.spent ∙ ap (spend m) (sym (all_nodes-cons size x [] ∙ add_zero (size x)));
         same = λ le. ap (λ y. y ∷ []) (one.same le);
       }
   separated_done (more {ts = ts} {us = us} {vs = vs} {x = x} {xs = xs} d s) fits follows none m =
       let one = done ts (g.comma ∷ us) x d fits (comma_follows us) m in
       let here = fits_past ts us (both_past (past ts (g.comma ∷ us) x d) (token_past g.comma us (λ k. refl))) fits in
-      let rest = next_items s here follows none (length us) (omega arith) (one.made ∷ []) (x ∷ []) m one.count (one.counted ∙ ap (tally m) (sym (all_nodes-cons size x [] ∙ add_zero (size x)))) (λ le. ap (λ y. y ∷ []) (one.same le)) in
+      let rest = next_items s here follows none (length us) (omega arith) (one.made ∷ []) (x ∷ []) m one.left (one.spent ∙ ap (spend m) (sym (all_nodes-cons size x [] ∙ add_zero (size x)))) (λ le. ap (λ y. y ∷ []) (one.same le)) in
       record {
         made = rest.made;
-        count = rest.count;
-        is = goes one _ _ (after_comma (length (g.comma ∷ us)) (one.made ∷ []) us one.count _ (omega arith) (λ k le e. ap (λ j. and_then (item (at us one.count)) (λ y. separated_from item j ((one.made ∷ []) ++ y ∷ []))) (same_len (length us) k e) ∙ rest.is));
-        counted = rest.counted;
+        left = rest.left;
+        is = goes one _ _ (after_comma (length (g.comma ∷ us)) (one.made ∷ []) us one.left _ (omega arith) (λ k le e. ap (λ j. and_then (item (at us one.left)) (λ y. separated_from item j ((one.made ∷ []) ++ y ∷ []))) (same_len (length us) k e) ∙ rest.is));
+        spent = rest.spent;
         same = rest.same;
       }
 
@@ -100,15 +100,15 @@ module _ {A : Type 0} (R : Lexemes → A → Lexemes → Type 0) (size : A → �
   unfolding bracketed followed expect_symbol
   bracketed_done s fits follows m =
       let d = separated_done s fits follows refl m in
-      record { made = d.made; count = d.count; is = goes d _ _ refl; counted = d.counted; same = d.same }
+      record { made = d.made; left = d.left; is = goes d _ _ refl; spent = d.spent; same = d.same }
 
   maybe_of : {ts ws : Lexemes} {xs : List A} → MaybeSeparated R ts xs ws → (us : Lexemes) → ws ≡ g.close_bracket ∷ us → ((ts us : Lexemes) (xs : List A) → Separated R ts xs us → is_symbol sign.CloseBracket (first_kind ts) ≡ false) → Fits ts → Follows (g.close_bracket ∷ us) → (m : ℕ) → Done (all_nodes size) (maybe_bracketed item (at (g.open_bracket ∷ ts) m)) m xs us
   unfolding maybe_bracketed followed expect_symbol eat_symbol
-  maybe_of no_items us e begins fits follows m = rw e (record { made = []; count = m; is = refl; counted = refl; same = λ le. refl })
+  maybe_of no_items us e begins fits follows m = rw e (record { made = []; left = m; is = refl; spent = spend_none m; same = λ le. refl })
   maybe_of (some_items {ts = ts} {us = ws} {xs = xs} s) us e begins fits follows m =
       let sep : Separated R ts xs (g.close_bracket ∷ us) = subst (λ w. Separated R ts xs w) e s in
       let d = separated_done sep fits follows refl m in
-      record { made = d.made; count = d.count; is = rw (begins ts ws xs s) (goes d _ _ refl); counted = d.counted; same = d.same }
+      record { made = d.made; left = d.left; is = rw (begins ts ws xs s) (goes d _ _ refl); spent = d.spent; same = d.same }
 
   -- none, or some, in brackets
   pub maybe_done : {ts us : Lexemes} {xs : List A} → MaybeSeparated R ts xs (g.close_bracket ∷ us) → ((ts us : Lexemes) (xs : List A) → Separated R ts xs us → is_symbol sign.CloseBracket (first_kind ts) ≡ false) → Fits ts → Follows (g.close_bracket ∷ us) → (m : ℕ) → Done (all_nodes size) (maybe_bracketed item (at (g.open_bracket ∷ ts) m)) m xs us

@@ -1,5 +1,5 @@
 -- What the grammar derives as a relation is read so.
-use Rattle.std.proofs.Common.{◌≡◌, ℕ, zero, suc, ◌+◌, ◌≤◌, ◌<◌, Bool, true, false, List, [], ◌∷◌, Option, Some, None, refl, sym, ap, ◌∙◌, subst, zero-add, arith}
+use Rattle.std.proofs.Common.{◌≡◌, ℕ, zero, suc, ◌+◌, ◌<◌, Bool, false, List, ◌∷◌, Option, Some, refl, ap, ◌∙◌, zero-add, arith}
 use Rattle.std.specs.Prelude.{nat_le}
 use Rattle.std.proofs.lemmas.Bool.{leb-true}
 use Rattle.castor_parse.specs.declared.token.Keyword.{Keyword}
@@ -10,24 +10,23 @@ use Rattle.castor_parse.specs.declared.tree.PCol.{PCol}
 use Rattle.castor_parse.specs.declared.tree.PExpr.{PExpr}
 use Rattle.castor_parse.specs.declared.tree.Item.{Item}
 use Rattle.castor_parse.specs.declared.tree.PAgg.{PAgg}
-use Rattle.castor_parse.specs.declared.tree.PAgg.TheVariants as agg
 use Rattle.castor_parse.specs.declared.tree.PBound.{PBound}
 use Rattle.castor_parse.specs.declared.tree.PBound.TheVariants as bound
 use Rattle.castor_parse.specs.declared.tree.PRel.{PRel}
 use Rattle.castor_parse.specs.declared.tree.PRel.TheVariants as r
-use Rattle.castor_parse.specs.Lexemes.{Lexeme, name, int, text, keyword, symbol, Lexemes}
+use Rattle.castor_parse.specs.Lexemes.{name, keyword, symbol, Lexemes}
 use Rattle.castor_parse.specs.Limits.{opened, are_few_open}
 use Rattle.castor_parse.specs.Grammar as g
 use Rattle.castor_parse.specs.Grammar.{Separated, last, more, MaybeSeparated, IsCol, IsAlias, IsExpr, IsItem, IsAggregate, IsAgg, IsKey, IsLower, IsUpper, IsRel, AreRels}
 use Rattle.castor_parse.specs.Sizes.{expr_nodes, item_nodes, bound_nodes, all_nodes, nodes}
-use Rattle.castor_parse.specs.Parser.{State, Outcome, Parser, and_then, at, node_limit, tally, first_kind, is_symbol, is_keyword, empty_rel, rel_node, followed, expect_symbol, expect_keyword, read_name, read_item, read_lower, read_upper, aggregated, read_count, read_aggregate, read_agg, falls_by, read_key, read_col, read_alias, read_table_name, read_source, read_scalar, read_rels, read_select, read_filter, read_join, read_binder, read_hash, read_ordered, read_groupby, read_orderby, read_dedup, rel_by, read_rel, rel_at, expr_at, separated, bracketed, maybe_bracketed}
+use Rattle.castor_parse.specs.Parser.{Outcome, Parser, at, spend, first_kind, is_symbol, empty_rel, followed, expect_symbol, expect_keyword, read_name, read_item, read_lower, read_upper, aggregated, read_count, read_aggregate, read_agg, falls_by, read_key, read_col, read_table_name, read_source, read_scalar, read_rels, read_select, read_filter, read_join, read_binder, read_hash, read_ordered, read_groupby, read_orderby, read_dedup, read_rel, rel_at, expr_at, separated, bracketed, maybe_bracketed}
 use Rattle.castor_parse.proofs.NodeLaws as size
-use Rattle.castor_parse.proofs.Readings.{counts, fewer}
+use Rattle.castor_parse.proofs.Readings.{spend_none, spends, had_some}
 use Rattle.castor_parse.proofs.SoundLists.{no_nodes, all_nodes-none}
 use Rattle.castor_parse.proofs.SoundRel.{no_sum}
-use Rattle.castor_parse.proofs.Past.{Past, both_past, token_past, and_first, and_second, in_brackets, expr_past, separated_past, maybe_past, col_past, item_past, agg_past, key_past, lower_past, upper_past, scope_past, rel_past}
+use Rattle.castor_parse.proofs.Past.{Past, token_past, and_first, and_second, in_brackets, expr_past, separated_past, maybe_past, col_past, item_past, agg_past, key_past, lower_past, scope_past, rel_past}
 use Rattle.castor_parse.proofs.CompleteExpr.{Done, goes, node_done, leaf_done, Room, room_past, room_in, strength, HasNoAlias, past_token, col_done, alias_done, expr_done}
-use Rattle.castor_parse.proofs.CompleteLists.{HasNoComma, separated_done, bracketed_done, maybe_done}
+use Rattle.castor_parse.proofs.CompleteLists.{separated_done, bracketed_done, maybe_done}
 
 -- ---- parts
 
@@ -48,31 +47,31 @@ item_done (g.item {called = called} d f) n k room ends m =
     let x = expr_done d n k room (before_alias f ends) m in
     record {
       made = record { expr = x.made; name = called };
-      count = x.count;
-      is = goes x _ _ (rw (alias_done f ends.1 x.count) refl);
-      counted = x.counted;
+      left = x.left;
+      is = goes x _ _ (rw (alias_done f ends.1 x.left) refl);
+      spent = x.spent;
       same = λ le. let p = x.same le in λ i. record { expr = p i; name = called };
     }
 
 lower_done : {ts us : Lexemes} {b : PBound} → IsLower ts b us → (n k : ℕ) → Room n k ts → strength us < 1 → (m : ℕ) → Done bound_nodes (read_lower (expr_at n) (at ts m)) m b us
 unfolding read_lower
-lower_done (g.any_lower {ts}) n k room s m = record { made = bound.Any; count = m; is = refl; counted = refl; same = λ le. refl }
+lower_done (g.any_lower {ts}) n k room s m = record { made = bound.Any; left = m; is = refl; spent = spend_none m; same = λ le. refl }
 lower_done (g.from {ts} {us} d) n k room s m =
     let x = expr_done d n k (room_past (token_past (symbol sign.Ge) ts (λ j. refl)) room) s m in
-    record { made = bound.Incl x.made; count = x.count; is = goes x _ _ refl; counted = x.counted; same = λ le. ap bound.Incl (x.same le) }
+    record { made = bound.Incl x.made; left = x.left; is = goes x _ _ refl; spent = x.spent; same = λ le. ap bound.Incl (x.same le) }
 lower_done (g.above {ts} {us} d) n k room s m =
     let x = expr_done d n k (room_past (token_past (symbol sign.Gt) ts (λ j. refl)) room) s m in
-    record { made = bound.Excl x.made; count = x.count; is = goes x _ _ refl; counted = x.counted; same = λ le. ap bound.Excl (x.same le) }
+    record { made = bound.Excl x.made; left = x.left; is = goes x _ _ refl; spent = x.spent; same = λ le. ap bound.Excl (x.same le) }
 
 upper_done : {ts us : Lexemes} {b : PBound} → IsUpper ts b us → (n k : ℕ) → Room n k ts → strength us < 1 → (m : ℕ) → Done bound_nodes (read_upper (expr_at n) (at ts m)) m b us
 unfolding read_upper
-upper_done (g.any_upper {ts}) n k room s m = record { made = bound.Any; count = m; is = refl; counted = refl; same = λ le. refl }
+upper_done (g.any_upper {ts}) n k room s m = record { made = bound.Any; left = m; is = refl; spent = spend_none m; same = λ le. refl }
 upper_done (g.up_to {ts} {us} d) n k room s m =
     let x = expr_done d n k (room_past (token_past (symbol sign.Le) ts (λ j. refl)) room) s m in
-    record { made = bound.Incl x.made; count = x.count; is = goes x _ _ refl; counted = x.counted; same = λ le. ap bound.Incl (x.same le) }
+    record { made = bound.Incl x.made; left = x.left; is = goes x _ _ refl; spent = x.spent; same = λ le. ap bound.Incl (x.same le) }
 upper_done (g.below {ts} {us} d) n k room s m =
     let x = expr_done d n k (room_past (token_past (symbol sign.Lt) ts (λ j. refl)) room) s m in
-    record { made = bound.Excl x.made; count = x.count; is = goes x _ _ refl; counted = x.counted; same = λ le. ap bound.Excl (x.same le) }
+    record { made = bound.Excl x.made; left = x.left; is = goes x _ _ refl; spent = x.spent; same = λ le. ap bound.Excl (x.same le) }
 
 aggregate_done : {ts us : Lexemes} {a : PAgg} → IsAggregate ts a us → (m : ℕ) → read_aggregate (at ts m) ≡ Some (a, at us m)
 unfolding read_aggregate aggregated read_count expect_symbol
@@ -97,7 +96,7 @@ key_done (g.desc d) ends m = rw (col_done d (omega arith) m) refl
 
 -- a tree without nodes
 pub plain_done : {A : Type 0} (o : Outcome A) (m : ℕ) (x : A) (us : Lexemes) → o ≡ Some (x, at us m) → Done no_nodes o m x us
-plain_done o m x us is = record { made = x; count = m; is = is; counted = refl; same = λ le. refl }
+plain_done o m x us is = record { made = x; left = m; is = is; spent = spend_none m; same = λ le. refl }
 
 -- ---- lists
 
@@ -164,113 +163,113 @@ module _ (rel : Parser PRel) (expr : Parser PExpr) where
   scalar_done : (ts us : Lexemes) (i : Item) (m : ℕ) → Done item_nodes (read_item expr (at ts m)) m i (g.close_paren ∷ us) → DoneBehind word.Scalar ts m (r.Scalar i) us
   unfolding read_rel read_scalar followed expect_symbol
   scalar_done ts us i m x =
-      node_done nodes _ m (item_nodes i) x.count empty_rel (r.Scalar x.made) (r.Scalar i) us (rw x.is refl) x.counted (size.nodes-Scalar i) (λ le. ap r.Scalar (x.same le))
+      node_done nodes _ m (item_nodes i) x.left empty_rel (r.Scalar x.made) (r.Scalar i) us (rw x.is refl) x.spent (size.nodes-Scalar i) (λ le. ap r.Scalar (x.same le))
 
   cross_done : (ts us : Lexemes) (ps : List PRel) (m : ℕ) → Done (all_nodes nodes) (separated rel (at ts m)) m ps (g.close_paren ∷ us) → DoneBehind word.Cross ts m (r.Cross ps) us
   unfolding read_rel read_rels followed expect_symbol
   cross_done ts us ps m x =
-      node_done nodes _ m (all_nodes nodes ps) x.count empty_rel (r.Cross x.made) (r.Cross ps) us (rw x.is refl) x.counted (size.nodes-Cross ps) (λ le. ap r.Cross (x.same le))
+      node_done nodes _ m (all_nodes nodes ps) x.left empty_rel (r.Cross x.made) (r.Cross ps) us (rw x.is refl) x.spent (size.nodes-Cross ps) (λ le. ap r.Cross (x.same le))
 
   concat_done : (ts us : Lexemes) (ps : List PRel) (m : ℕ) → Done (all_nodes nodes) (separated rel (at ts m)) m ps (g.close_paren ∷ us) → DoneBehind word.Concat ts m (r.Concat ps) us
   unfolding read_rel read_rels followed expect_symbol
   concat_done ts us ps m x =
-      node_done nodes _ m (all_nodes nodes ps) x.count empty_rel (r.Concat x.made) (r.Concat ps) us (rw x.is refl) x.counted (size.nodes-Concat ps) (λ le. ap r.Concat (x.same le))
+      node_done nodes _ m (all_nodes nodes ps) x.left empty_rel (r.Concat x.made) (r.Concat ps) us (rw x.is refl) x.spent (size.nodes-Concat ps) (λ le. ap r.Concat (x.same le))
 
-  select_done : (ts us vs : Lexemes) (is : List Item) (p : PRel) (m : ℕ) → (x : Done (all_nodes item_nodes) (bracketed (read_item expr) (at (g.open_bracket ∷ ts) m)) m is (g.comma ∷ us)) → Done nodes (rel (at us x.count)) x.count p (g.close_paren ∷ vs) → DoneBehind word.Select (g.open_bracket ∷ ts) m (r.Select is p) vs
+  select_done : (ts us vs : Lexemes) (is : List Item) (p : PRel) (m : ℕ) → (x : Done (all_nodes item_nodes) (bracketed (read_item expr) (at (g.open_bracket ∷ ts) m)) m is (g.comma ∷ us)) → Done nodes (rel (at us x.left)) x.left p (g.close_paren ∷ vs) → DoneBehind word.Select (g.open_bracket ∷ ts) m (r.Select is p) vs
   unfolding read_rel read_select followed expect_symbol
   select_done ts us vs is p m x y =
-      node_done nodes _ m (all_nodes item_nodes is + nodes p) y.count empty_rel (r.Select x.made y.made) (r.Select is p) vs (rw x.is (rw y.is refl))
-      (counts m x.count y.count (all_nodes item_nodes is) (nodes p) x.counted y.counted) (size.nodes-Select is p)
-      (λ le. let a = x.same (fewer x.count y.count (nodes p) y.counted le) in let b = y.same le in λ i. r.Select (a i) (b i))
+      node_done nodes _ m (all_nodes item_nodes is + nodes p) y.left empty_rel (r.Select x.made y.made) (r.Select is p) vs (rw x.is (rw y.is refl))
+      (spends m x.left y.left (all_nodes item_nodes is) (nodes p) x.spent y.spent) (size.nodes-Select is p)
+      (λ le. let a = x.same (had_some x.left y.left (nodes p) y.spent le) in let b = y.same le in λ i. r.Select (a i) (b i))
 
-  filter_done : (ts us vs : Lexemes) (a : PExpr) (p : PRel) (m : ℕ) → (x : Done expr_nodes (expr (at ts m)) m a (g.comma ∷ us)) → Done nodes (rel (at us x.count)) x.count p (g.close_paren ∷ vs) → DoneBehind word.Filter ts m (r.Filter a p) vs
+  filter_done : (ts us vs : Lexemes) (a : PExpr) (p : PRel) (m : ℕ) → (x : Done expr_nodes (expr (at ts m)) m a (g.comma ∷ us)) → Done nodes (rel (at us x.left)) x.left p (g.close_paren ∷ vs) → DoneBehind word.Filter ts m (r.Filter a p) vs
   unfolding read_rel read_filter followed expect_symbol
   filter_done ts us vs a p m x y =
-      node_done nodes _ m (expr_nodes a + nodes p) y.count empty_rel (r.Filter x.made y.made) (r.Filter a p) vs (rw x.is (rw y.is refl))
-      (counts m x.count y.count (expr_nodes a) (nodes p) x.counted y.counted) (size.nodes-Filter a p)
-      (λ le. let c = x.same (fewer x.count y.count (nodes p) y.counted le) in let b = y.same le in λ i. r.Filter (c i) (b i))
+      node_done nodes _ m (expr_nodes a + nodes p) y.left empty_rel (r.Filter x.made y.made) (r.Filter a p) vs (rw x.is (rw y.is refl))
+      (spends m x.left y.left (expr_nodes a) (nodes p) x.spent y.spent) (size.nodes-Filter a p)
+      (λ le. let c = x.same (had_some x.left y.left (nodes p) y.spent le) in let b = y.same le in λ i. r.Filter (c i) (b i))
 
-  join_done : (ts us vs ws : Lexemes) (a : PExpr) (p q : PRel) (m : ℕ) → (x : Done expr_nodes (expr (at ts m)) m a (g.comma ∷ us)) → (y : Done nodes (rel (at us x.count)) x.count p (g.comma ∷ vs)) → Done nodes (rel (at vs y.count)) y.count q (g.close_paren ∷ ws) → DoneBehind word.Join ts m (r.Join a p q) ws
+  join_done : (ts us vs ws : Lexemes) (a : PExpr) (p q : PRel) (m : ℕ) → (x : Done expr_nodes (expr (at ts m)) m a (g.comma ∷ us)) → (y : Done nodes (rel (at us x.left)) x.left p (g.comma ∷ vs)) → Done nodes (rel (at vs y.left)) y.left q (g.close_paren ∷ ws) → DoneBehind word.Join ts m (r.Join a p q) ws
   unfolding read_rel read_join followed expect_symbol
   join_done ts us vs ws a p q m x y z =
-      node_done nodes _ m (expr_nodes a + (nodes p + nodes q)) z.count empty_rel (r.Join x.made y.made z.made) (r.Join a p q) ws (rw x.is (rw y.is (rw z.is refl)))
-      (counts m x.count z.count (expr_nodes a) (nodes p + nodes q) x.counted (counts x.count y.count z.count (nodes p) (nodes q) y.counted z.counted)) (size.nodes-Join a p q)
+      node_done nodes _ m (expr_nodes a + (nodes p + nodes q)) z.left empty_rel (r.Join x.made y.made z.made) (r.Join a p q) ws (rw x.is (rw y.is (rw z.is refl)))
+      (spends m x.left z.left (expr_nodes a) (nodes p + nodes q) x.spent (spends x.left y.left z.left (nodes p) (nodes q) y.spent z.spent)) (size.nodes-Join a p q)
       (λ le.
-      let l2 = fewer y.count z.count (nodes q) z.counted le in
-      let b = x.same (fewer x.count y.count (nodes p) y.counted l2) in
+      let l2 = had_some y.left z.left (nodes q) z.spent le in
+      let b = x.same (had_some x.left y.left (nodes p) y.spent l2) in
       let c = y.same l2 in
       let d = z.same le in
       λ i. r.Join (b i) (c i) (d i))
 
-  depjoin_done : (ts us vs : Lexemes) (k : Word) (p q : PRel) (m : ℕ) → (x : Done nodes (rel (at ts m)) m p (keyword word.As ∷ name k ∷ g.comma ∷ us)) → Done nodes (rel (at us x.count)) x.count q (g.close_paren ∷ vs) → DoneBehind word.Depjoin ts m (r.DepJoin k p q) vs
+  depjoin_done : (ts us vs : Lexemes) (k : Word) (p q : PRel) (m : ℕ) → (x : Done nodes (rel (at ts m)) m p (keyword word.As ∷ name k ∷ g.comma ∷ us)) → Done nodes (rel (at us x.left)) x.left q (g.close_paren ∷ vs) → DoneBehind word.Depjoin ts m (r.DepJoin k p q) vs
   unfolding read_rel read_binder read_source read_name followed expect_keyword expect_symbol
   depjoin_done ts us vs k p q m x y =
-      node_done nodes _ m (nodes p + nodes q) y.count empty_rel (r.DepJoin k x.made y.made) (r.DepJoin k p q) vs
+      node_done nodes _ m (nodes p + nodes q) y.left empty_rel (r.DepJoin k x.made y.made) (r.DepJoin k p q) vs
       (rw x.is (rw y.is refl))
-      (counts m x.count y.count (nodes p) (nodes q) x.counted y.counted) (size.nodes-DepJoin k p q)
-      (λ le. let a = x.same (fewer x.count y.count (nodes q) y.counted le) in let b = y.same le in λ i. r.DepJoin k (a i) (b i))
+      (spends m x.left y.left (nodes p) (nodes q) x.spent y.spent) (size.nodes-DepJoin k p q)
+      (λ le. let a = x.same (had_some x.left y.left (nodes q) y.spent le) in let b = y.same le in λ i. r.DepJoin k (a i) (b i))
 
-  list_done : (ts us vs : Lexemes) (k : Word) (p q : PRel) (m : ℕ) → (x : Done nodes (rel (at ts m)) m p (keyword word.As ∷ name k ∷ g.comma ∷ us)) → Done nodes (rel (at us x.count)) x.count q (g.close_paren ∷ vs) → DoneBehind word.List ts m (r.List k p q) vs
+  list_done : (ts us vs : Lexemes) (k : Word) (p q : PRel) (m : ℕ) → (x : Done nodes (rel (at ts m)) m p (keyword word.As ∷ name k ∷ g.comma ∷ us)) → Done nodes (rel (at us x.left)) x.left q (g.close_paren ∷ vs) → DoneBehind word.List ts m (r.List k p q) vs
   unfolding read_rel read_binder read_source read_name followed expect_keyword expect_symbol
   list_done ts us vs k p q m x y =
-      node_done nodes _ m (nodes p + nodes q) y.count empty_rel (r.List k x.made y.made) (r.List k p q) vs
+      node_done nodes _ m (nodes p + nodes q) y.left empty_rel (r.List k x.made y.made) (r.List k p q) vs
       (rw x.is (rw y.is refl))
-      (counts m x.count y.count (nodes p) (nodes q) x.counted y.counted) (size.nodes-List k p q)
-      (λ le. let a = x.same (fewer x.count y.count (nodes q) y.counted le) in let b = y.same le in λ i. r.List k (a i) (b i))
+      (spends m x.left y.left (nodes p) (nodes q) x.spent y.spent) (size.nodes-List k p q)
+      (λ le. let a = x.same (had_some x.left y.left (nodes q) y.spent le) in let b = y.same le in λ i. r.List k (a i) (b i))
 
-  hash_done : (ts us vs ws : Lexemes) (k : Word) (p q : PRel) (keys : List PExpr) (m : ℕ) → (x : Done nodes (rel (at ts m)) m p (keyword word.As ∷ name k ∷ g.comma ∷ us)) → (y : Done nodes (rel (at us x.count)) x.count q (g.comma ∷ g.open_bracket ∷ vs)) → Done (all_nodes expr_nodes) (bracketed expr (at (g.open_bracket ∷ vs) y.count)) y.count keys (g.close_paren ∷ ws) → DoneBehind word.Hash ts m (r.Hash k p q keys) ws
+  hash_done : (ts us vs ws : Lexemes) (k : Word) (p q : PRel) (keys : List PExpr) (m : ℕ) → (x : Done nodes (rel (at ts m)) m p (keyword word.As ∷ name k ∷ g.comma ∷ us)) → (y : Done nodes (rel (at us x.left)) x.left q (g.comma ∷ g.open_bracket ∷ vs)) → Done (all_nodes expr_nodes) (bracketed expr (at (g.open_bracket ∷ vs) y.left)) y.left keys (g.close_paren ∷ ws) → DoneBehind word.Hash ts m (r.Hash k p q keys) ws
   unfolding read_rel read_hash read_source read_name followed expect_keyword expect_symbol
   hash_done ts us vs ws k p q keys m x y z =
-      node_done nodes _ m (nodes p + (nodes q + all_nodes expr_nodes keys)) z.count empty_rel (r.Hash k x.made y.made z.made) (r.Hash k p q keys) ws
+      node_done nodes _ m (nodes p + (nodes q + all_nodes expr_nodes keys)) z.left empty_rel (r.Hash k x.made y.made z.made) (r.Hash k p q keys) ws
       (rw x.is (rw y.is (rw z.is refl)))
-      (counts m x.count z.count (nodes p) (nodes q + all_nodes expr_nodes keys) x.counted (counts x.count y.count z.count (nodes q) (all_nodes expr_nodes keys) y.counted z.counted)) (size.nodes-Hash k p q keys)
+      (spends m x.left z.left (nodes p) (nodes q + all_nodes expr_nodes keys) x.spent (spends x.left y.left z.left (nodes q) (all_nodes expr_nodes keys) y.spent z.spent)) (size.nodes-Hash k p q keys)
       (λ le.
-      let l2 = fewer y.count z.count (all_nodes expr_nodes keys) z.counted le in
-      let b = x.same (fewer x.count y.count (nodes q) y.counted l2) in
+      let l2 = had_some y.left z.left (all_nodes expr_nodes keys) z.spent le in
+      let b = x.same (had_some x.left y.left (nodes q) y.spent l2) in
       let c = y.same l2 in
       let d = z.same le in
       λ i. r.Hash k (b i) (c i) (d i))
 
-  ordered_done : (ts us vs ws xs : Lexemes) (k : Word) (p q : PRel) (lo hi : PBound) (m : ℕ) → (x : Done nodes (rel (at ts m)) m p (keyword word.As ∷ name k ∷ g.comma ∷ us)) → (y : Done nodes (rel (at us x.count)) x.count q (g.comma ∷ vs)) → (z : Done bound_nodes (read_lower expr (at vs y.count)) y.count lo (g.comma ∷ ws)) → Done bound_nodes (read_upper expr (at ws z.count)) z.count hi (g.close_paren ∷ xs) → DoneBehind word.Ordered ts m (r.Ord k p q lo hi) xs
+  ordered_done : (ts us vs ws xs : Lexemes) (k : Word) (p q : PRel) (lo hi : PBound) (m : ℕ) → (x : Done nodes (rel (at ts m)) m p (keyword word.As ∷ name k ∷ g.comma ∷ us)) → (y : Done nodes (rel (at us x.left)) x.left q (g.comma ∷ vs)) → (z : Done bound_nodes (read_lower expr (at vs y.left)) y.left lo (g.comma ∷ ws)) → Done bound_nodes (read_upper expr (at ws z.left)) z.left hi (g.close_paren ∷ xs) → DoneBehind word.Ordered ts m (r.Ord k p q lo hi) xs
   unfolding read_rel read_ordered read_source read_name followed expect_keyword expect_symbol
   ordered_done ts us vs ws xs k p q lo hi m x y z w =
-      node_done nodes _ m (nodes p + (nodes q + (bound_nodes lo + bound_nodes hi))) w.count empty_rel (r.Ord k x.made y.made z.made w.made) (r.Ord k p q lo hi) xs
+      node_done nodes _ m (nodes p + (nodes q + (bound_nodes lo + bound_nodes hi))) w.left empty_rel (r.Ord k x.made y.made z.made w.made) (r.Ord k p q lo hi) xs
       (rw x.is (rw y.is (rw z.is (rw w.is refl))))
-      (counts m x.count w.count (nodes p) (nodes q + (bound_nodes lo + bound_nodes hi)) x.counted
-      (counts x.count y.count w.count (nodes q) (bound_nodes lo + bound_nodes hi) y.counted (counts y.count z.count w.count (bound_nodes lo) (bound_nodes hi) z.counted w.counted)))
+      (spends m x.left w.left (nodes p) (nodes q + (bound_nodes lo + bound_nodes hi)) x.spent
+      (spends x.left y.left w.left (nodes q) (bound_nodes lo + bound_nodes hi) y.spent (spends y.left z.left w.left (bound_nodes lo) (bound_nodes hi) z.spent w.spent)))
       (size.nodes-Ord k p q lo hi)
       (λ le.
-      let l3 = fewer z.count w.count (bound_nodes hi) w.counted le in
-      let l2 = fewer y.count z.count (bound_nodes lo) z.counted l3 in
-      let b = x.same (fewer x.count y.count (nodes q) y.counted l2) in
+      let l3 = had_some z.left w.left (bound_nodes hi) w.spent le in
+      let l2 = had_some y.left z.left (bound_nodes lo) z.spent l3 in
+      let b = x.same (had_some x.left y.left (nodes q) y.spent l2) in
       let c = y.same l2 in
       let d = z.same l3 in
       let f = w.same le in
       λ i. r.Ord k (b i) (c i) (d i) (f i))
 
-  groupby_done : (ts us vs ws : Lexemes) (keys : List PCol) (aggs : List (PAgg × Option Word)) (p : PRel) (m : ℕ) → (x : Done (all_nodes no_nodes) (maybe_bracketed read_col (at (g.open_bracket ∷ ts) m)) m keys (g.comma ∷ g.open_bracket ∷ us)) → (y : Done (all_nodes no_nodes) (maybe_bracketed read_agg (at (g.open_bracket ∷ us) x.count)) x.count aggs (g.comma ∷ vs)) → Done nodes (rel (at vs y.count)) y.count p (g.close_paren ∷ ws) → DoneBehind word.Groupby (g.open_bracket ∷ ts) m (r.Group keys aggs p) ws
+  groupby_done : (ts us vs ws : Lexemes) (keys : List PCol) (aggs : List (PAgg × Option Word)) (p : PRel) (m : ℕ) → (x : Done (all_nodes no_nodes) (maybe_bracketed read_col (at (g.open_bracket ∷ ts) m)) m keys (g.comma ∷ g.open_bracket ∷ us)) → (y : Done (all_nodes no_nodes) (maybe_bracketed read_agg (at (g.open_bracket ∷ us) x.left)) x.left aggs (g.comma ∷ vs)) → Done nodes (rel (at vs y.left)) y.left p (g.close_paren ∷ ws) → DoneBehind word.Groupby (g.open_bracket ∷ ts) m (r.Group keys aggs p) ws
   unfolding read_rel read_groupby followed expect_symbol
   groupby_done ts us vs ws keys aggs p m x y z =
-      let none : tally y.count 0 ≡ tally m 0 = counts m x.count y.count (all_nodes no_nodes keys) (all_nodes no_nodes aggs) x.counted y.counted ∙ ap (tally m) (no_sum (all_nodes no_nodes keys) (all_nodes no_nodes aggs) (all_nodes-none keys) (all_nodes-none aggs)) in
-      node_done nodes _ m (nodes p) z.count empty_rel (r.Group x.made y.made z.made) (r.Group keys aggs p) ws (rw x.is (rw y.is (rw z.is refl)))
-      (counts m y.count z.count 0 (nodes p) none z.counted ∙ ap (tally m) (zero-add (nodes p))) (size.nodes-Group keys aggs p)
+      let none : y.left ≡ spend m 0 = spends m x.left y.left (all_nodes no_nodes keys) (all_nodes no_nodes aggs) x.spent y.spent ∙ ap (spend m) (no_sum (all_nodes no_nodes keys) (all_nodes no_nodes aggs) (all_nodes-none keys) (all_nodes-none aggs)) in
+      node_done nodes _ m (nodes p) z.left empty_rel (r.Group x.made y.made z.made) (r.Group keys aggs p) ws (rw x.is (rw y.is (rw z.is refl)))
+      (spends m y.left z.left 0 (nodes p) none z.spent ∙ ap (spend m) (zero-add (nodes p))) (size.nodes-Group keys aggs p)
       (λ le.
-      let l2 = fewer y.count z.count (nodes p) z.counted le in
-      let b = x.same (fewer x.count y.count (all_nodes no_nodes aggs) y.counted l2) in
+      let l2 = had_some y.left z.left (nodes p) z.spent le in
+      let b = x.same (had_some x.left y.left (all_nodes no_nodes aggs) y.spent l2) in
       let c = y.same l2 in
       let d = z.same le in
       λ i. r.Group (b i) (c i) (d i))
 
-  orderby_done : (ts us vs : Lexemes) (keys : List (PCol × Bool)) (p : PRel) (m : ℕ) → (x : Done (all_nodes no_nodes) (bracketed read_key (at (g.open_bracket ∷ ts) m)) m keys (g.comma ∷ us)) → Done nodes (rel (at us x.count)) x.count p (g.close_paren ∷ vs) → DoneBehind word.Orderby (g.open_bracket ∷ ts) m (r.Order keys p) vs
+  orderby_done : (ts us vs : Lexemes) (keys : List (PCol × Bool)) (p : PRel) (m : ℕ) → (x : Done (all_nodes no_nodes) (bracketed read_key (at (g.open_bracket ∷ ts) m)) m keys (g.comma ∷ us)) → Done nodes (rel (at us x.left)) x.left p (g.close_paren ∷ vs) → DoneBehind word.Orderby (g.open_bracket ∷ ts) m (r.Order keys p) vs
   unfolding read_rel read_orderby followed expect_symbol
   orderby_done ts us vs keys p m x y =
-      node_done nodes _ m (nodes p) y.count empty_rel (r.Order x.made y.made) (r.Order keys p) vs (rw x.is (rw y.is refl))
-      (counts m x.count y.count 0 (nodes p) (x.counted ∙ ap (tally m) (all_nodes-none keys)) y.counted ∙ ap (tally m) (zero-add (nodes p))) (size.nodes-Order keys p)
-      (λ le. let a = x.same (fewer x.count y.count (nodes p) y.counted le) in let b = y.same le in λ i. r.Order (a i) (b i))
+      node_done nodes _ m (nodes p) y.left empty_rel (r.Order x.made y.made) (r.Order keys p) vs (rw x.is (rw y.is refl))
+      (spends m x.left y.left 0 (nodes p) (x.spent ∙ ap (spend m) (all_nodes-none keys)) y.spent ∙ ap (spend m) (zero-add (nodes p))) (size.nodes-Order keys p)
+      (λ le. let a = x.same (had_some x.left y.left (nodes p) y.spent le) in let b = y.same le in λ i. r.Order (a i) (b i))
 
   dedup_done : (ts us : Lexemes) (p : PRel) (m : ℕ) → Done nodes (rel (at ts m)) m p (g.close_paren ∷ us) → DoneBehind word.Dedup ts m (r.Dedup p) us
   unfolding read_rel read_dedup followed expect_symbol
-  dedup_done ts us p m x = node_done nodes _ m (nodes p) x.count empty_rel (r.Dedup x.made) (r.Dedup p) us (rw x.is refl) x.counted (size.nodes-Dedup p) (λ le. ap r.Dedup (x.same le))
+  dedup_done ts us p m x = node_done nodes _ m (nodes p) x.left empty_rel (r.Dedup x.made) (r.Dedup p) us (rw x.is refl) x.spent (size.nodes-Dedup p) (λ le. ap r.Dedup (x.same le))
 
 -- a relation in the reader with n levels of parentheses inside
 abbrev Reaches : Lexemes → PRel → Lexemes → Type 0
@@ -303,54 +302,54 @@ mutual
       let inside = inside_of word.Select (λ j. refl) room in
       let x = items_done s n (k + 1 + 1) (room_bracket inside) m in
       let after = room_past (past_token g.comma (λ j. refl) (in_brackets (separated_past IsItem (λ ts us i f. item_past f) s))) inside in
-      select_done (rel_at n) (expr_at n) ts us vs is p m x (inner_done (reach_rel d) n (k + 1) after x.count)
+      select_done (rel_at n) (expr_at n) ts us vs is p m x (inner_done (reach_rel d) n (k + 1) after x.left)
   reach_rel (g.filter {ts} {us} {vs} {a} {p} d f) n k room m =
       let inside = inside_of word.Filter (λ j. refl) room in
       let x = expr_done d n (k + 1) inside (omega arith) m in
-      filter_done (rel_at n) (expr_at n) ts us vs a p m x (inner_done (reach_rel f) n (k + 1) (room_past (past_token g.comma (λ j. refl) (expr_past d)) inside) x.count)
+      filter_done (rel_at n) (expr_at n) ts us vs a p m x (inner_done (reach_rel f) n (k + 1) (room_past (past_token g.comma (λ j. refl) (expr_past d)) inside) x.left)
   reach_rel (g.join {ts} {us} {vs} {ws} {a} {p} {q} d f h) n k room m =
       let inside = inside_of word.Join (λ j. refl) room in
       let x = expr_done d n (k + 1) inside (omega arith) m in
       let r2 = room_past (past_token g.comma (λ j. refl) (expr_past d)) inside in
-      let y = inner_done (reach_rel f) n (k + 1) r2 x.count in
+      let y = inner_done (reach_rel f) n (k + 1) r2 x.left in
       let r3 = room_past (past_token g.comma (λ j. refl) (rel_past f)) r2 in
-      join_done (rel_at n) (expr_at n) ts us vs ws a p q m x y (inner_done (reach_rel h) n (k + 1) r3 y.count)
+      join_done (rel_at n) (expr_at n) ts us vs ws a p q m x y (inner_done (reach_rel h) n (k + 1) r3 y.left)
   reach_rel (g.depjoin {ts} {us} {vs} {k = w} {p} {q} d f) n k room m =
       let inside = inside_of word.Depjoin (λ j. refl) room in
       let x = inner_done (reach_rel d) n (k + 1) inside m in
-      depjoin_done (rel_at n) (expr_at n) ts us vs w p q m x (inner_done (reach_rel f) n (k + 1) (room_past (scope_past w (rel_past d)) inside) x.count)
+      depjoin_done (rel_at n) (expr_at n) ts us vs w p q m x (inner_done (reach_rel f) n (k + 1) (room_past (scope_past w (rel_past d)) inside) x.left)
   reach_rel (g.list {ts} {us} {vs} {k = w} {p} {q} d f) n k room m =
       let inside = inside_of word.List (λ j. refl) room in
       let x = inner_done (reach_rel d) n (k + 1) inside m in
-      list_done (rel_at n) (expr_at n) ts us vs w p q m x (inner_done (reach_rel f) n (k + 1) (room_past (scope_past w (rel_past d)) inside) x.count)
+      list_done (rel_at n) (expr_at n) ts us vs w p q m x (inner_done (reach_rel f) n (k + 1) (room_past (scope_past w (rel_past d)) inside) x.left)
   reach_rel (g.hash {ts} {us} {vs} {ws} {k = w} {p} {q} {keys} d f s) n k room m =
       let inside = inside_of word.Hash (λ j. refl) room in
       let x = inner_done (reach_rel d) n (k + 1) inside m in
       let r2 = room_past (scope_past w (rel_past d)) inside in
-      let y = inner_done (reach_rel f) n (k + 1) r2 x.count in
+      let y = inner_done (reach_rel f) n (k + 1) r2 x.left in
       let r3 = room_past (past_token g.comma (λ j. refl) (rel_past f)) r2 in
-      hash_done (rel_at n) (expr_at n) ts us vs ws w p q keys m x y (exprs_done s n (k + 1 + 1) (room_bracket r3) y.count)
+      hash_done (rel_at n) (expr_at n) ts us vs ws w p q keys m x y (exprs_done s n (k + 1 + 1) (room_bracket r3) y.left)
   reach_rel (g.ordered {ts} {us} {vs} {ws} {xs} {k = w} {p} {q} {lo} {hi} d f a b) n k room m =
       let inside = inside_of word.Ordered (λ j. refl) room in
       let x = inner_done (reach_rel d) n (k + 1) inside m in
       let r2 = room_past (scope_past w (rel_past d)) inside in
-      let y = inner_done (reach_rel f) n (k + 1) r2 x.count in
+      let y = inner_done (reach_rel f) n (k + 1) r2 x.left in
       let r3 = room_past (past_token g.comma (λ j. refl) (rel_past f)) r2 in
-      let z = lower_done a n (k + 1) r3 (omega arith) y.count in
+      let z = lower_done a n (k + 1) r3 (omega arith) y.left in
       let r4 = room_past (past_token g.comma (λ j. refl) (lower_past a)) r3 in
-      ordered_done (rel_at n) (expr_at n) ts us vs ws xs w p q lo hi m x y z (upper_done b n (k + 1) r4 (omega arith) z.count)
+      ordered_done (rel_at n) (expr_at n) ts us vs ws xs w p q lo hi m x y z (upper_done b n (k + 1) r4 (omega arith) z.left)
   reach_rel (g.groupby {ts} {us} {vs} {ws} {ks} {aggs} {p} s t d) n k room m =
       let inside = inside_of word.Groupby (λ j. refl) room in
       let x = cols_done s m in
-      let y = aggs_done t x.count in
+      let y = aggs_done t x.left in
       let r2 = room_past (past_token g.comma (λ j. refl) (in_brackets (maybe_past IsCol (λ ts us i f. col_past f) s))) inside in
       let r3 = room_past (past_token g.comma (λ j. refl) (in_brackets (maybe_past IsAgg (λ ts us i f. agg_past f) t))) r2 in
-      groupby_done (rel_at n) (expr_at n) ts us vs ws ks aggs p m x y (inner_done (reach_rel d) n (k + 1) r3 y.count)
+      groupby_done (rel_at n) (expr_at n) ts us vs ws ks aggs p m x y (inner_done (reach_rel d) n (k + 1) r3 y.left)
   reach_rel (g.orderby {ts} {us} {vs} {ks} {p} s d) n k room m =
       let inside = inside_of word.Orderby (λ j. refl) room in
       let x = keys_done s m in
       let r2 = room_past (past_token g.comma (λ j. refl) (in_brackets (separated_past IsKey (λ ts us i f. key_past f) s))) inside in
-      orderby_done (rel_at n) (expr_at n) ts us vs ks p m x (inner_done (reach_rel d) n (k + 1) r2 x.count)
+      orderby_done (rel_at n) (expr_at n) ts us vs ks p m x (inner_done (reach_rel d) n (k + 1) r2 x.left)
   reach_rel (g.dedup {ts} {us} {p} d) n k room m = dedup_done (rel_at n) (expr_at n) ts us p m (inner_done (reach_rel d) n (k + 1) (inside_of word.Dedup (λ j. refl) room) m)
 
   reach_rels : {ts us : Lexemes} {ps : List PRel} → AreRels ts ps us → Separated ReachedRel ts ps us

@@ -1,5 +1,5 @@
 -- The depth of a tree, step by step.
-use Rattle.std.proofs.Common.{◌≡◌, ℕ, zero, suc, ◌+◌, ◌-◌, ◌<◌, ◌≤◌, List, [], ◌∷◌, length, get_or, max, refl, sym, ap, ◌∙◌, subst, arith}
+use Rattle.std.proofs.Common.{◌≡◌, ℕ, zero, suc, ◌+◌, ◌-◌, ◌<◌, ◌≤◌, List, [], ◌∷◌, length, get_or, max, sym, ap, ◌∙◌, arith}
 use Rattle.std.specs.Prelude.{map, fold}
 use Rattle.castor_parse.specs.declared.tree.PRel.{PRel, fold-roll-PRel}
 use Rattle.castor_parse.specs.declared.tree.PRel.TheVariants as r

@@ -1,5 +1,5 @@
 -- What parsers give, step by step.
-use Rattle.std.proofs.Common.{◌≡◌, ℕ, Option, Some, None, refl, ap, subst}
+use Rattle.std.proofs.Common.{◌≡◌, Some, None, refl, subst}
 use Rattle.castor_parse.specs.Parser.{State, Outcome, Parser, and_then}
 
 -- what was read, and where the parser is then

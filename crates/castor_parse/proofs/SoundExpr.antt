@@ -1,5 +1,5 @@
 -- What the rules of expressions read stands in the grammar.
-use Rattle.std.proofs.Common.{◌≡◌, ◌≢◌, ℕ, zero, suc, ◌+◌, ◌≤◌, ◌<◌, ◌^◌, pos, ◌-ℤ◌, Bool, true, false, cond, List, [], ◌∷◌, length, drop, Option, Some, None, refl, sym, ap, ◌∙◌, subst, arith}
+use Rattle.std.proofs.Common.{◌≡◌, ℕ, zero, suc, ◌+◌, ◌<◌, pos, ◌-ℤ◌, Bool, true, false, cond, [], ◌∷◌, length, drop, Option, Some, None, refl, sym, ap, ◌∙◌, subst, arith}
 use Rattle.castor_val.specs.declared.value.Ty.TheVariants as ty
 use Rattle.castor_val.specs.declared.value.Value.TheVariants as value
 use Rattle.castor_alg.specs.declared.expr.Op.{Op}
@@ -8,7 +8,6 @@ use Rattle.castor_parse.specs.declared.token.Kind.{Kind}
 use Rattle.castor_parse.specs.declared.token.Keyword.TheVariants as word
 use Rattle.castor_parse.specs.declared.token.Symbol.TheVariants as sign
 use Rattle.castor_parse.specs.declared.tree.Word.{Word}
-use Rattle.castor_parse.specs.declared.tree.PCol.{PCol}
 use Rattle.castor_parse.specs.declared.tree.PCol.TheVariants as col
 use Rattle.castor_parse.specs.declared.tree.PExpr.{PExpr}
 use Rattle.castor_parse.specs.declared.tree.PExpr.TheVariants as e
@@ -16,18 +15,18 @@ use Rattle.castor_parse.specs.Lexemes.{Lexeme, name, int, text, keyword, symbol,
 use Rattle.castor_parse.specs.Grammar as g
 use Rattle.castor_parse.specs.Grammar.{Level, IsCol, IsAlias, IsExpr, Compares}
 use Rattle.castor_parse.specs.Sizes.{expr_nodes}
-use Rattle.castor_parse.specs.Parser.{State, Outcome, Parser, and_then, ◌>>=◌, at, node_limit, tally, kind_of, first_kind, is_keyword, empty_expr, expr_node, chain_turn, chain_from, chain, or_operator, and_operator, comparison, sum_operator, term_operator, leading_nots, read_nots, negated, compared, read_name, int_limit, column_limit, int_literal, negative_literal, text_literal, truth_literal, read_param, numbered_col, member_by, named_by, named, read_if, parenthesized, read_prim, read_term, read_sum, read_cmp, read_not, read_and, read_or, expr_at, dotted, col_number, col_name, read_col, alias_by, read_alias}
+use Rattle.castor_parse.specs.Parser.{State, Parser, ◌>>=◌, at, spend, kind_of, first_kind, is_keyword, empty_expr, expr_node, chain_turn, chain_from, chain, or_operator, and_operator, comparison, sum_operator, term_operator, leading_nots, read_nots, negated, compared, read_name, int_limit, column_limit, int_literal, negative_literal, text_literal, truth_literal, read_param, numbered_col, member_by, named_by, named, read_if, parenthesized, read_prim, read_term, read_sum, read_cmp, read_not, read_and, read_or, expr_at, dotted, col_number, col_name, read_col, alias_by, read_alias}
 use Rattle.castor_parse.proofs.Outcomes.{Gives, gives_none, gives_some, step}
 use Rattle.castor_parse.proofs.NodeLaws.{expr_nodes-Col, expr_nodes-ScopeAt, expr_nodes-Param, expr_nodes-Lit, expr_nodes-Bin, expr_nodes-Not, expr_nodes-If}
-use Rattle.castor_parse.proofs.Readings.{Steps, stepped, Ate, StepsInt, Plain, Read, SoundPlain, Sound, expects_symbol, eats_symbol, eats_keyword, reads_name, reads_int, reads_text, node_read, leaf_read, counts, fewer, keywords_same}
+use Rattle.castor_parse.proofs.Readings.{Steps, Ate, Plain, Read, SoundPlain, Sound, expects_symbol, eats_symbol, eats_keyword, reads_name, reads_int, reads_text, node_read, leaf_read, spends, had_some, keywords_same}
 
 -- ---- columns, and names after `as`
 
 dotted_read : (old st : State) (w : Word) (b : Bool) (new : State) → Steps (name w) old st → Ate (symbol sign.Dot) st b new → Gives (dotted b w new) (Plain IsCol old)
 dotted_read old st w false new h ate =
-    gives_some _ (col.Name w) new (record { derived = rw h.rest (subst (λ s. IsCol (name w ∷ st.rest) (col.Name w) s.rest) ate g.named); nodes = ap (λ s. s.nodes) (sym ate) ∙ h.nodes })
+    gives_some _ (col.Name w) new (record { derived = rw h.rest (subst (λ s. IsCol (name w ∷ st.rest) (col.Name w) s.rest) ate g.named); budget = ap (λ s. s.budget) (sym ate) ∙ h.budget })
 dotted_read old st w true new h ate =
-    step (reads_name new) (λ v last k. gives_some _ (col.Dotted w v) last (record { derived = rw (h.rest, ate.rest, k.rest) g.dotted; nodes = k.nodes ∙ ate.nodes ∙ h.nodes }))
+    step (reads_name new) (λ v last k. gives_some _ (col.Dotted w v) last (record { derived = rw (h.rest, ate.rest, k.rest) g.dotted; budget = k.budget ∙ ate.budget ∙ h.budget }))
 
 reads_col_name : SoundPlain IsCol col_name
 unfolding col_name
@@ -35,7 +34,7 @@ reads_col_name st = step (reads_name st) (λ w next h. step (eats_symbol sign.Do
 
 reads_col_number : (ts : Lexemes) (n : ℕ) → Gives (col_number (at (symbol sign.Hash ∷ ts) n)) (Plain IsCol (at (symbol sign.Hash ∷ ts) n))
 unfolding col_number
-reads_col_number ts n = step (reads_int column_limit (at ts n)) (λ k new h. gives_some _ (col.Number k) new (record { derived = rw h.steps.rest (g.numbered {n = k} (omega (arith, h.within))); nodes = h.steps.nodes }))
+reads_col_number ts n = step (reads_int column_limit (at ts n)) (λ k new h. gives_some _ (col.Number k) new (record { derived = rw h.steps.rest (g.numbered {n = k} (omega (arith, h.within))); budget = h.steps.budget }))
 
 read_col_at : (ts : Lexemes) (n : ℕ) → Gives (read_col (at ts n)) (Plain IsCol (at ts n))
 unfolding read_col
@@ -44,11 +43,11 @@ read_col_at (symbol sign.Hash ∷ ts) n = reads_col_number ts n
 read_col_at (t ∷ ts) n = reads_col_name (at (t ∷ ts) n)
 
 pub reads_col : SoundPlain IsCol read_col
-reads_col st = read_col_at st.rest st.nodes
+reads_col st = read_col_at st.rest st.budget
 
 alias_read : (old : State) (b : Bool) (new : State) → Ate (keyword word.As) old b new → Gives (alias_by b new) (Plain IsAlias old)
-alias_read old false new ate = gives_some _ None new (record { derived = subst (λ s. IsAlias old.rest None s.rest) ate g.no_alias; nodes = ap (λ s. s.nodes) (sym ate) })
-alias_read old true new ate = step (reads_name new) (λ w last h. gives_some _ (Some w) last (record { derived = rw (ate.rest, h.rest) g.alias; nodes = h.nodes ∙ ate.nodes }))
+alias_read old false new ate = gives_some _ None new (record { derived = subst (λ s. IsAlias old.rest None s.rest) ate g.no_alias; budget = ap (λ s. s.budget) (sym ate) })
+alias_read old true new ate = step (reads_name new) (λ w last h. gives_some _ (Some w) last (record { derived = rw (ate.rest, h.rest) g.alias; budget = h.budget ∙ ate.budget }))
 
 pub reads_alias : SoundPlain IsAlias read_alias
 unfolding read_alias
@@ -66,8 +65,8 @@ bin_read : (l l2 m : Level) (o : Op) (old : State) (t : Lexeme) (us : Lexemes) (
 bin_read l l2 m o old t us k x y st joins h j =
     node_read (IsExpr l2) expr_nodes old st empty_expr (e.Bin o x y) (e.Bin o h.tree j.tree) (expr_nodes h.tree + expr_nodes j.tree)
     (joins old.rest st.rest h.tree j.tree h.derived j.derived)
-    (omega (arith, h.counted, j.counted)) (expr_nodes-Bin o h.tree j.tree)
-    (λ le. let p = h.same (omega (arith, j.counted)) in let q = j.same le in λ i. e.Bin o (p i) (q i))
+    (omega (arith, h.spent, j.spent)) (expr_nodes-Bin o h.tree j.tree)
+    (λ le. let p = h.same (omega (arith, j.spent)) in let q = j.same le in λ i. e.Bin o (p i) (q i))
 
 some_op : (p o : Op) → Some p ≡ Some o → p ≡ o
 some_op p o is = cc
@@ -77,7 +76,7 @@ none_op o is = cc
 
 -- the same tree by another rule
 lift : (l m : Level) (old : State) (x : PExpr) (new : State) → ((ts us : Lexemes) (a : PExpr) → IsExpr m ts a us → IsExpr l ts a us) → Read (IsExpr m) expr_nodes old x new → Read (IsExpr l) expr_nodes old x new
-lift l m old x new up h = record { tree = h.tree; derived = up old.rest new.rest h.tree h.derived; counted = h.counted; same = h.same }
+lift l m old x new up h = record { tree = h.tree; derived = up old.rest new.rest h.tree h.derived; spent = h.spent; same = h.same }
 
 -- a chain of parts of the level m makes one of the level l
 module _ (l m : Level) (operator : Option Kind → Option Op) (next : Parser PExpr) (none : operator None ≡ None)
@@ -92,7 +91,7 @@ module _ (l m : Level) (operator : Option Kind → Option Op) (next : Parser PEx
   chain_from_reads : (n : ℕ) (old : State) (x : PExpr) (st : State) → Read (IsExpr l) expr_nodes old x st → Gives (chain_from operator next n x st) (Read (IsExpr l) expr_nodes old)
   unfolding chain_from
   chain_from_reads zero old x st h = gives_some _ x st h
-  chain_from_reads (suc n) old x st h = turn_reads (chain_from operator next n) (chain_from_reads n) old x st.rest st.nodes (operator (first_kind st.rest)) refl h
+  chain_from_reads (suc n) old x st h = turn_reads (chain_from operator next n) (chain_from_reads n) old x st.rest st.budget (operator (first_kind st.rest)) refl h
 
   chain_reads : ((ts us : Lexemes) (a : PExpr) → IsExpr m ts a us → IsExpr l ts a us) → SoundExpr l (chain operator next)
   unfolding chain
@@ -156,27 +155,27 @@ negated_reads : (k : ℕ) (us : Lexemes) (n : ℕ) (x : PExpr) (st : State) → 
 unfolding negated
 negated_reads zero us n x st h = gives_some _ x st h
 negated_reads (suc k) us n x st h =
-    step (node_read (IsExpr g.not) expr_nodes (at (keyword word.Not ∷ us) n) st empty_expr (e.Not x) (e.Not h.tree) (expr_nodes h.tree) (g.not_not h.derived) h.counted (expr_nodes-Not h.tree) (λ le. ap e.Not (h.same le)))
+    step (node_read (IsExpr g.not) expr_nodes (at (keyword word.Not ∷ us) n) st empty_expr (e.Not x) (e.Not h.tree) (expr_nodes h.tree) (g.not_not h.derived) h.spent (expr_nodes-Not h.tree) (λ le. ap e.Not (h.same le)))
     (λ y new j. negated_reads k (keyword word.Not ∷ us) n y new j)
 
 -- ---- primaries
 
-leaf : (old st : State) (tree : PExpr) → IsExpr g.prim old.rest tree st.rest → st.nodes ≡ old.nodes → expr_nodes tree ≡ 1 → Gives (expr_node tree st) (Read (IsExpr g.prim) expr_nodes old)
+leaf : (old st : State) (tree : PExpr) → IsExpr g.prim old.rest tree st.rest → st.budget ≡ old.budget → expr_nodes tree ≡ 1 → Gives (expr_node tree st) (Read (IsExpr g.prim) expr_nodes old)
 leaf old st tree d same sized = leaf_read (IsExpr g.prim) expr_nodes old st empty_expr tree d same sized
 
 named_twice : (old s1 s2 : State) (w : Word) → Steps (name w) old s1 → Steps g.dot s1 s2 → Gives ((read_name >>= (λ v. expr_node (e.Col (col.Dotted w v)))) s2) (Read (IsExpr g.prim) expr_nodes old)
 named_twice old s1 s2 w h dot =
-    step (reads_name s2) (λ v last k. leaf old last (e.Col (col.Dotted w v)) (rw (h.rest, dot.rest, k.rest) (g.prim_col g.dotted)) (k.nodes ∙ dot.nodes ∙ h.nodes) (expr_nodes-Col (col.Dotted w v)))
+    step (reads_name s2) (λ v last k. leaf old last (e.Col (col.Dotted w v)) (rw (h.rest, dot.rest, k.rest) (g.prim_col g.dotted)) (k.budget ∙ dot.budget ∙ h.budget) (expr_nodes-Col (col.Dotted w v)))
 
 member_reads : (old s1 : State) (w : Word) (ts : Lexemes) (n : ℕ) → Steps (name w) old s1 → Steps g.dot s1 (at ts n) → Gives (member_by (first_kind ts) w (at ts n)) (Read (IsExpr g.prim) expr_nodes old)
 member_reads old s1 w [] n h dot = named_twice old s1 (at [] n) w h dot
 member_reads old s1 w (int i ∷ ts) n h dot =
-    step (reads_int column_limit (at (int i ∷ ts) n)) (λ k last j. leaf old last (e.ScopeAt w k) (rw (h.rest, dot.rest, j.steps.rest) (g.prim_scope {n = k} (omega (arith, j.within)))) (j.steps.nodes ∙ dot.nodes ∙ h.nodes) (expr_nodes-ScopeAt w k))
+    step (reads_int column_limit (at (int i ∷ ts) n)) (λ k last j. leaf old last (e.ScopeAt w k) (rw (h.rest, dot.rest, j.steps.rest) (g.prim_scope {n = k} (omega (arith, j.within)))) (j.steps.budget ∙ dot.budget ∙ h.budget) (expr_nodes-ScopeAt w k))
 member_reads old s1 w (t ∷ ts) n h dot = named_twice old s1 (at (t ∷ ts) n) w h dot
 
 named_read : (old s1 : State) (w : Word) (b : Bool) (s2 : State) → Steps (name w) old s1 → Ate g.dot s1 b s2 → Gives (named_by b w s2) (Read (IsExpr g.prim) expr_nodes old)
-named_read old s1 w false s2 h ate = leaf old s2 (e.Col (col.Name w)) (rw h.rest (subst (λ s. IsExpr g.prim (name w ∷ s1.rest) (e.Col (col.Name w)) s.rest) ate (g.prim_col g.named))) (ap (λ s. s.nodes) (sym ate) ∙ h.nodes) (expr_nodes-Col (col.Name w))
-named_read old s1 w true s2 h ate = member_reads old s1 w s2.rest s2.nodes h ate
+named_read old s1 w false s2 h ate = leaf old s2 (e.Col (col.Name w)) (rw h.rest (subst (λ s. IsExpr g.prim (name w ∷ s1.rest) (e.Col (col.Name w)) s.rest) ate (g.prim_col g.named))) (ap (λ s. s.budget) (sym ate) ∙ h.budget) (expr_nodes-Col (col.Name w))
+named_read old s1 w true s2 h ate = member_reads old s1 w s2.rest s2.budget h ate
 
 module _ (inner : Parser PExpr) (si : SoundExpr g.expr inner) where
   if_reads : (ts : Lexemes) (n : ℕ) → Gives (read_if inner (at (keyword word.If ∷ ts) n)) (Read (IsExpr g.prim) expr_nodes (at (keyword word.If ∷ ts) n))
@@ -186,19 +185,19 @@ module _ (inner : Parser PExpr) (si : SoundExpr g.expr inner) where
       let dc : IsExpr g.expr s1.rest hc.tree (g.comma ∷ s3.rest) = subst (IsExpr g.expr s1.rest hc.tree) h3.rest hc.derived in
       let da : IsExpr g.expr s3.rest ha.tree (g.comma ∷ s5.rest) = subst (IsExpr g.expr s3.rest ha.tree) h5.rest ha.derived in
       let db : IsExpr g.expr s5.rest hb.tree (g.close_paren ∷ s7.rest) = subst (IsExpr g.expr s5.rest hb.tree) h7.rest hb.derived in
-      let cc1 : tally s3.nodes 0 ≡ tally n (expr_nodes hc.tree) = ap (λ k. tally k 0) h3.nodes ∙ hc.counted ∙ ap (λ k. tally k (expr_nodes hc.tree)) h1.nodes in
-      let ca : tally s5.nodes 0 ≡ tally s3.nodes (expr_nodes ha.tree) = ap (λ k. tally k 0) h5.nodes ∙ ha.counted in
-      let cb : tally s7.nodes 0 ≡ tally s5.nodes (expr_nodes hb.tree) = ap (λ k. tally k 0) h7.nodes ∙ hb.counted in
+      let cc1 : s3.budget ≡ spend n (expr_nodes hc.tree) = h3.budget ∙ hc.spent ∙ ap (λ k. spend k (expr_nodes hc.tree)) h1.budget in
+      let ca : s5.budget ≡ spend s3.budget (expr_nodes ha.tree) = h5.budget ∙ ha.spent in
+      let cb : s7.budget ≡ spend s5.budget (expr_nodes hb.tree) = h7.budget ∙ hb.spent in
       node_read (IsExpr g.prim) expr_nodes (at (keyword word.If ∷ ts) n) s7 empty_expr (e.If c a b) (e.If hc.tree ha.tree hb.tree) (expr_nodes hc.tree + (expr_nodes ha.tree + expr_nodes hb.tree))
       (subst (λ us. IsExpr g.prim (keyword word.If ∷ us) (e.If hc.tree ha.tree hb.tree) s7.rest) (sym h1.rest) (g.prim_if dc da db))
-      (counts n s3.nodes s7.nodes (expr_nodes hc.tree) (expr_nodes ha.tree + expr_nodes hb.tree) cc1 (counts s3.nodes s5.nodes s7.nodes (expr_nodes ha.tree) (expr_nodes hb.tree) ca cb))
+      (spends n s3.budget s7.budget (expr_nodes hc.tree) (expr_nodes ha.tree + expr_nodes hb.tree) cc1 (spends s3.budget s5.budget s7.budget (expr_nodes ha.tree) (expr_nodes hb.tree) ca cb))
       (expr_nodes-If hc.tree ha.tree hb.tree)
       (λ le.
-      let l5 = fewer s5.nodes s7.nodes (expr_nodes hb.tree) cb le in
-      let l3 = fewer s3.nodes s5.nodes (expr_nodes ha.tree) ca l5 in
-      let pc = hc.same (subst (λ k. k ≤ node_limit) h3.nodes l3) in
-      let pa = ha.same (subst (λ k. k ≤ node_limit) h5.nodes l5) in
-      let pb = hb.same (subst (λ k. k ≤ node_limit) h7.nodes le) in
+      let l5 = had_some s5.budget s7.budget (expr_nodes hb.tree) cb le in
+      let l3 = had_some s3.budget s5.budget (expr_nodes ha.tree) ca l5 in
+      let pc = hc.same (subst (λ k. 0 < k) h3.budget l3) in
+      let pa = ha.same (subst (λ k. 0 < k) h5.budget l5) in
+      let pb = hb.same (subst (λ k. 0 < k) h7.budget le) in
       λ i. e.If (pc i) (pa i) (pb i)))))))))
 
   paren_reads : (ts : Lexemes) (n : ℕ) → Gives (parenthesized inner (at (g.open_paren ∷ ts) n)) (Read (IsExpr g.prim) expr_nodes (at (g.open_paren ∷ ts) n))
@@ -208,27 +207,27 @@ module _ (inner : Parser PExpr) (si : SoundExpr g.expr inner) where
       gives_some _ a s2 (record {
         tree = h.tree;
         derived = g.prim_paren (subst (IsExpr g.expr ts h.tree) close.rest h.derived);
-        counted = ap (λ k. tally k 0) close.nodes ∙ h.counted;
-        same = λ le. h.same (subst (λ k. k ≤ node_limit) close.nodes le);
+        spent = close.budget ∙ h.spent;
+        same = λ le. h.same (subst (λ k. 0 < k) close.budget le);
       })))
 
   prim_reads_at : (ts : Lexemes) (n : ℕ) → Gives (read_prim inner (at ts n)) (Read (IsExpr g.prim) expr_nodes (at ts n))
   unfolding read_prim int_literal negative_literal text_literal truth_literal read_param numbered_col named
   prim_reads_at [] n = gives_none _
-  prim_reads_at (int i ∷ ts) n = step (reads_int int_limit (at (int i ∷ ts) n)) (λ k s h. leaf (at (int i ∷ ts) n) s (e.Lit ty.Int (value.Int (pos k))) (rw h.steps.rest (g.prim_int {n = k} (omega (arith, h.within)))) h.steps.nodes (expr_nodes-Lit ty.Int (value.Int (pos k))))
-  prim_reads_at (text z ∷ ts) n = step (reads_text (at (text z ∷ ts) n)) (λ y s h. leaf (at (text z ∷ ts) n) s (e.Lit ty.Text (value.Text y)) (rw h.rest g.prim_text) h.nodes (expr_nodes-Lit ty.Text (value.Text y)))
+  prim_reads_at (int i ∷ ts) n = step (reads_int int_limit (at (int i ∷ ts) n)) (λ k s h. leaf (at (int i ∷ ts) n) s (e.Lit ty.Int (value.Int (pos k))) (rw h.steps.rest (g.prim_int {n = k} (omega (arith, h.within)))) h.steps.budget (expr_nodes-Lit ty.Int (value.Int (pos k))))
+  prim_reads_at (text z ∷ ts) n = step (reads_text (at (text z ∷ ts) n)) (λ y s h. leaf (at (text z ∷ ts) n) s (e.Lit ty.Text (value.Text y)) (rw h.rest g.prim_text) h.budget (expr_nodes-Lit ty.Text (value.Text y)))
   prim_reads_at (name w ∷ ts) n = step (reads_name (at (name w ∷ ts) n)) (λ v s1 h. step (eats_symbol sign.Dot s1) (λ b s2 ate. named_read (at (name w ∷ ts) n) s1 v b s2 h ate))
   prim_reads_at (keyword word.True ∷ ts) n = leaf (at (keyword word.True ∷ ts) n) (at ts n) (e.Lit ty.Bool (value.Bool true)) g.prim_true refl (expr_nodes-Lit ty.Bool (value.Bool true))
   prim_reads_at (keyword word.False ∷ ts) n = leaf (at (keyword word.False ∷ ts) n) (at ts n) (e.Lit ty.Bool (value.Bool false)) g.prim_false refl (expr_nodes-Lit ty.Bool (value.Bool false))
   prim_reads_at (keyword word.If ∷ ts) n = if_reads ts n
-  prim_reads_at (symbol sign.Minus ∷ ts) n = step (reads_int (int_limit + 1) (at ts n)) (λ k s h. leaf (at (symbol sign.Minus ∷ ts) n) s (e.Lit ty.Int (value.Int (pos 0 -ℤ pos k))) (rw h.steps.rest (g.prim_negative {n = k} (omega (arith, h.within)))) h.steps.nodes (expr_nodes-Lit ty.Int (value.Int (pos 0 -ℤ pos k))))
-  prim_reads_at (symbol sign.Dollar ∷ ts) n = step (reads_name (at ts n)) (λ w s h. leaf (at (symbol sign.Dollar ∷ ts) n) s (e.Param w) (rw h.rest g.prim_param) h.nodes (expr_nodes-Param w))
-  prim_reads_at (symbol sign.Hash ∷ ts) n = step (reads_col_number ts n) (λ c s h. leaf (at (symbol sign.Hash ∷ ts) n) s (e.Col c) (g.prim_col h.derived) h.nodes (expr_nodes-Col c))
+  prim_reads_at (symbol sign.Minus ∷ ts) n = step (reads_int (int_limit + 1) (at ts n)) (λ k s h. leaf (at (symbol sign.Minus ∷ ts) n) s (e.Lit ty.Int (value.Int (pos 0 -ℤ pos k))) (rw h.steps.rest (g.prim_negative {n = k} (omega (arith, h.within)))) h.steps.budget (expr_nodes-Lit ty.Int (value.Int (pos 0 -ℤ pos k))))
+  prim_reads_at (symbol sign.Dollar ∷ ts) n = step (reads_name (at ts n)) (λ w s h. leaf (at (symbol sign.Dollar ∷ ts) n) s (e.Param w) (rw h.rest g.prim_param) h.budget (expr_nodes-Param w))
+  prim_reads_at (symbol sign.Hash ∷ ts) n = step (reads_col_number ts n) (λ c s h. leaf (at (symbol sign.Hash ∷ ts) n) s (e.Col c) (g.prim_col h.derived) h.budget (expr_nodes-Col c))
   prim_reads_at (symbol sign.OpenParen ∷ ts) n = paren_reads ts n
   prim_reads_at (t ∷ ts) n = gives_none _
 
   prim_reads : SoundExpr g.prim (read_prim inner)
-  prim_reads st = prim_reads_at st.rest st.nodes
+  prim_reads st = prim_reads_at st.rest st.budget
 
   term_reads : SoundExpr g.term (read_term inner)
   unfolding read_term
@@ -245,14 +244,14 @@ module _ (inner : Parser PExpr) (si : SoundExpr g.expr inner) where
 
   cmp_reads : SoundExpr g.cmp (read_cmp inner)
   unfolding read_cmp
-  cmp_reads st = step (sum_reads st) (λ x new h. compared_reads st x new.rest new.nodes (comparison (first_kind new.rest)) refl h)
+  cmp_reads st = step (sum_reads st) (λ x new h. compared_reads st x new.rest new.budget (comparison (first_kind new.rest)) refl h)
 
   not_reads : SoundExpr g.not (read_not inner)
   unfolding read_not read_nots
   not_reads st =
-      step (cmp_reads (at (drop (leading_nots st.rest) st.rest) st.nodes)) (λ x new h.
-      subst (λ us. Gives (negated (leading_nots st.rest) x new) (Read (IsExpr g.not) expr_nodes (at us st.nodes))) (sym (nots_first st.rest))
-      (negated_reads (leading_nots st.rest) (drop (leading_nots st.rest) st.rest) st.nodes x new (lift g.not g.cmp (at (drop (leading_nots st.rest) st.rest) st.nodes) x new (λ ts us a d. g.not_cmp d) h)))
+      step (cmp_reads (at (drop (leading_nots st.rest) st.rest) st.budget)) (λ x new h.
+      subst (λ us. Gives (negated (leading_nots st.rest) x new) (Read (IsExpr g.not) expr_nodes (at us st.budget))) (sym (nots_first st.rest))
+      (negated_reads (leading_nots st.rest) (drop (leading_nots st.rest) st.rest) st.budget x new (lift g.not g.cmp (at (drop (leading_nots st.rest) st.rest) st.budget) x new (λ ts us a d. g.not_cmp d) h)))
 
   and_reads : SoundExpr g.and (read_and inner)
   unfolding read_and

@@ -1,5 +1,5 @@
 -- What the rules of lists read stands in the grammar.
-use Rattle.std.proofs.Common.{◌≡◌, ℕ, zero, suc, ◌+◌, ◌≤◌, Bool, true, false, List, [], ◌∷◌, ◌++◌, length, Some, refl, sym, ap, ◌∙◌, subst, zero-add, arith}
+use Rattle.std.proofs.Common.{◌≡◌, ℕ, zero, suc, ◌+◌, ◌<◌, Bool, true, false, List, [], ◌∷◌, ◌++◌, length, refl, sym, ap, ◌∙◌, subst, zero-add, arith}
 use Rattle.std.specs.Prelude.{map, fold}
 use Rattle.castor_parse.specs.declared.token.Symbol.{Symbol}
 use Rattle.castor_parse.specs.declared.token.Symbol.TheVariants as sign
@@ -7,16 +7,16 @@ use Rattle.castor_parse.specs.Lexemes.{Lexeme, symbol, Lexemes}
 use Rattle.castor_parse.specs.Grammar as g
 use Rattle.castor_parse.specs.Grammar.{Separated, last, more, MaybeSeparated, no_items, some_items}
 use Rattle.castor_parse.specs.Sizes.{all_nodes}
-use Rattle.castor_parse.specs.Parser.{State, Outcome, Parser, and_then, at, node_limit, tally, eat_symbol, followed, on_comma, separated_from, separated, bracketed, maybe_by, maybe_bracketed}
+use Rattle.castor_parse.specs.Parser.{State, Parser, and_then, spend, followed, on_comma, separated_from, separated, bracketed, maybe_by, maybe_bracketed}
 use Rattle.castor_parse.proofs.Outcomes.{Gives, gives_some, weaker, step}
-use Rattle.castor_parse.proofs.Readings.{Steps, Ate, Plain, Read, SoundPlain, Sound, expects_symbol, eats_symbol, counts, fewer}
+use Rattle.castor_parse.proofs.Readings.{Steps, Ate, Read, SoundPlain, Sound, expects_symbol, eats_symbol, spend_none, spends, had_some}
 
 -- trees that have no nodes
 abbrev pub no_nodes : {A : Type 0} → A → ℕ
 no_nodes x = 0
 
 pub plain : {A : Type 0} {R : Lexemes → A → Lexemes → Type 0} {p : Parser A} → SoundPlain R p → Sound R no_nodes p
-plain h st = record { holds = λ x new e. let d = (h st).holds x new e in record { tree = x; derived = d.derived; counted = ap (λ n. tally n 0) d.nodes; same = λ le. refl } }
+plain h st = record { holds = λ x new e. let d = (h st).holds x new e in record { tree = x; derived = d.derived; spent = d.budget ∙ spend_none st.budget; same = λ le. refl } }
 
 fold-from : (a : ℕ) (xs : List ℕ) → fold ◌+◌ a xs ≡ a + fold ◌+◌ 0 xs
 fold-from a [] = omega arith
@@ -52,9 +52,9 @@ module _ {A : Type 0} (R : Lexemes → A → Lexemes → Type 0) (size : A → �
       step (sound s1) (λ x s2 j. goes old (found ++ x ∷ []) s2 (record {
         tree = h.tree ++ j.tree ∷ [];
         derived = one_more_item R h.derived s1.rest s2.rest j.tree ate.rest j.derived;
-        counted = counts old.nodes s1.nodes s2.nodes (all_nodes size h.tree) (size j.tree) (ap (λ n. tally n 0) ate.nodes ∙ h.counted) j.counted ∙ ap (tally old.nodes) (sym (all_nodes-last size h.tree j.tree));
+        spent = spends old.budget s1.budget s2.budget (all_nodes size h.tree) (size j.tree) (ate.budget ∙ h.spent) j.spent ∙ ap (spend old.budget) (sym (all_nodes-last size h.tree j.tree));
         same = λ le.
-            let before = h.same (subst (λ n. n ≤ node_limit) ate.nodes (fewer s1.nodes s2.nodes (size j.tree) j.counted le)) in
+            let before = h.same (subst (λ n. 0 < n) ate.budget (had_some s1.budget s2.budget (size j.tree) j.spent le)) in
             let one = j.same le in
             λ i. before i ++ one i ∷ [];
       }))
@@ -70,7 +70,7 @@ module _ {A : Type 0} (R : Lexemes → A → Lexemes → Type 0) (size : A → �
       step (sound st) (λ x s1 h. separated_from_reads (length s1.rest) st (x ∷ []) s1 (record {
         tree = h.tree ∷ [];
         derived = last h.derived;
-        counted = h.counted ∙ ap (tally st.nodes) (sym (zero-add (size h.tree)));
+        spent = h.spent ∙ ap (spend st.budget) (sym (zero-add (size h.tree)));
         same = λ le. ap (λ y. y ∷ []) (h.same le);
       }))
 
@@ -78,15 +78,15 @@ module _ {A : Type 0} (R : Lexemes → A → Lexemes → Type 0) (size : A → �
 pub record Then {A : Type 0} (R : Lexemes → A → Lexemes → Type 0) (size : A → ℕ) (t : Lexeme) (old : State) (x : A) (new : State) : Type 0 where
   pub tree : A
   pub derived : R old.rest tree (t ∷ new.rest)
-  pub counted : tally new.nodes 0 ≡ tally old.nodes (size tree)
-  pub same : new.nodes ≤ node_limit → x ≡ tree
+  pub spent : new.budget ≡ spend old.budget (size tree)
+  pub same : 0 < new.budget → x ≡ tree
 
 pub then_passed : {A : Type 0} {R : Lexemes → A → Lexemes → Type 0} {size : A → ℕ} (t : Lexeme) (old : State) (x : A) (s1 s2 : State) → Read R size old x s1 → Steps t s1 s2 → Then R size t old x s2
 then_passed {R = R} t old x s1 s2 h k = record {
   tree = h.tree;
   derived = subst (λ us. R old.rest h.tree us) k.rest h.derived;
-  counted = ap (λ n. tally n 0) k.nodes ∙ h.counted;
-  same = λ le. h.same (subst (λ n. n ≤ node_limit) k.nodes le);
+  spent = k.budget ∙ h.spent;
+  same = λ le. h.same (subst (λ n. 0 < n) k.budget le);
 }
 
 -- what a rule reads, and then a symbol
@@ -106,7 +106,7 @@ module _ {A : Type 0} (R : Lexemes → A → Lexemes → Type 0) (size : A → �
   closed st s1 opens h = record {
     tree = h.tree;
     derived = (s1.rest, (opens.rest, h.derived));
-    counted = h.counted ∙ ap (λ n. tally n (all_nodes size h.tree)) opens.nodes;
+    spent = h.spent ∙ ap (λ n. spend n (all_nodes size h.tree)) opens.budget;
     same = h.same;
   }
 
@@ -120,7 +120,7 @@ module _ {A : Type 0} (R : Lexemes → A → Lexemes → Type 0) (size : A → �
       gives_some _ [] s2 (record {
         tree = [];
         derived = (s1.rest, (opens.rest, subst (λ us. MaybeSeparated R us [] (g.close_bracket ∷ s2.rest)) (sym ate.rest) no_items));
-        counted = ap (λ n. tally n 0) (ate.nodes ∙ opens.nodes);
+        spent = ate.budget ∙ opens.budget ∙ spend_none st.budget;
         same = λ le. refl;
       })
   maybe_reads st s1 opens false s2 ate =
@@ -128,7 +128,7 @@ module _ {A : Type 0} (R : Lexemes → A → Lexemes → Type 0) (size : A → �
       weaker _ (followed_reads (separated item) sign.CloseBracket s2 (separated_reads R size item sound s2)) (λ found s3 h. record {
         tree = h.tree;
         derived = (s2.rest, (opens2.rest, some_items h.derived));
-        counted = h.counted ∙ ap (λ n. tally n (all_nodes size h.tree)) opens2.nodes;
+        spent = h.spent ∙ ap (λ n. spend n (all_nodes size h.tree)) opens2.budget;
         same = h.same;
       })
 

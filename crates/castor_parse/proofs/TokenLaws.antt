@@ -9,7 +9,6 @@ use Rattle.std.proofs.lemmas.List.{drop_all, get_or-drop}
 use Rattle.castor_parse.specs.declared.token.Token.{Token}
 use Rattle.castor_parse.specs.declared.token.Kind.{Kind}
 use Rattle.castor_parse.specs.declared.token.Kind.TheVariants as kind
-use Rattle.castor_parse.specs.declared.cut.Piece.{Piece}
 use Rattle.castor_parse.specs.declared.cut.Piece.TheVariants as piece
 use Rattle.castor_parse.specs.Cut.{StandsAt, AreInOrder, AreSpansInOrder}
 use Rattle.castor_parse.specs.Tokens.{Bytes, is_in, run, begins_word, keyword_of, is_name, tokens_of, tokens_from, piece_of, with_piece, token_at}

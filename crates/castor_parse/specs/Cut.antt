@@ -1,5 +1,5 @@
 -- What the cutting of a text promises.
-use Rattle.std.specs.Prelude.{◌≡◌, ◌<◌, ◌≤◌, ℕ, ◌+◌, ◌-◌, List, [], ◌∷◌, length, take, drop, slice_index, true, Option, None, Result, Ok, Err}
+use Rattle.std.specs.Prelude.{◌≡◌, ◌<◌, ◌≤◌, ℕ, ◌+◌, ◌-◌, List, [], ◌∷◌, length, take, drop, slice_index, true, None}
 use Rattle.castor_parse.specs.declared.token.Kind.{Kind}
 use Rattle.castor_parse.specs.declared.token.Kind.TheVariants as kind
 use Rattle.castor_parse.specs.declared.token.Span.{Span}

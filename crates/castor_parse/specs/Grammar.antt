@@ -1,6 +1,6 @@
 -- The grammar of query files, one constructor for each production. A rule relates the lexemes before it, the
 -- tree that it derives from the first of them, and the lexemes after it.
-use Rattle.std.specs.Prelude.{◌≡◌, ℕ, ◌<◌, ◌≤◌, ◌^◌, pos, ◌-ℤ◌, Bool, true, false, Option, Some, None, List, [], ◌∷◌}
+use Rattle.std.specs.Prelude.{ℕ, ◌<◌, ◌≤◌, ◌^◌, pos, ◌-ℤ◌, Bool, true, false, Option, Some, None, List, [], ◌∷◌}
 use Rattle.castor_val.specs.declared.value.Ty.{Ty}
 use Rattle.castor_val.specs.declared.value.Ty.TheVariants as ty
 use Rattle.castor_val.specs.declared.value.Value.TheVariants as value

@@ -1,5 +1,5 @@
 -- What a grammar sees of a token: the name, the number or the text that it stands for.
-use Rattle.std.specs.Prelude.{◌≡◌, ◌≤◌, ◌^◌, Option, Some, None, ℕ, ◌+◌, ◌-◌, ◌*◌, ◌==◌, ◌&&◌, Bool, true, false, if◌then◌else◌, List, [], ◌∷◌, map, fold, take, drop}
+use Rattle.std.specs.Prelude.{◌≡◌, ◌≤◌, ◌^◌, Option, Some, None, ℕ, ◌+◌, ◌-◌, ◌*◌, ◌==◌, ◌&&◌, Bool, false, if◌then◌else◌, List, [], ◌∷◌, map, fold, take, drop}
 use Rattle.castor_parse.specs.declared.token.Keyword.{Keyword}
 use Rattle.castor_parse.specs.declared.token.Symbol.{Symbol}
 use Rattle.castor_parse.specs.declared.token.Span.{Span}

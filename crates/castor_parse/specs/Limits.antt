@@ -1,5 +1,5 @@
 -- The limits of tokens.
-use Rattle.std.specs.Prelude.{ℕ, ◌+◌, ◌-◌, Bool, true, false, ◌&&◌, nat_le, List, [], ◌∷◌, length}
+use Rattle.std.specs.Prelude.{ℕ, ◌+◌, ◌-◌, Bool, true, ◌&&◌, nat_le, [], ◌∷◌, length}
 use Rattle.std.specs.List.{list_all}
 use Rattle.castor_parse.specs.declared.token.Keyword.TheVariants.{Not}
 use Rattle.castor_parse.specs.declared.token.Symbol.TheVariants.{OpenParen, CloseParen, OpenBracket, CloseBracket}

@@ -1,7 +1,6 @@
 -- What a query file is parsed to, and why a text isn't.
-use Rattle.std.specs.Prelude.{◌≡◌, ◌<◌, ◌≤◌, ℕ, true, false, List, map, length, Option, Some, None, Result, Ok, Err, IsUtf8}
+use Rattle.std.specs.Prelude.{◌≡◌, ◌<◌, ◌≤◌, ℕ, true, false, List, map, length, Some, None, IsUtf8}
 use Rattle.castor_parse.specs.declared.token.Token.{Token}
-use Rattle.castor_parse.specs.declared.token.Span.{Span}
 use Rattle.castor_parse.specs.declared.tree.Decl.{Decl}
 use Rattle.castor_parse.specs.declared.tree.PRel.{PRel}
 use Rattle.castor_parse.specs.declared.tree.File.{File}
@@ -55,20 +54,20 @@ pub record IsRead (text : Bytes) (ts : List Token) (file : File) : Type 0 where
   pub derived : IsFile (lexemes text ts) file.decls file.query
   pub small : IsSmall file.query
 
--- a file of these tokens, declarations and query, whose tree isn't too large by a count of its nodes
-pub record IsSmallFile (ts : List Token) (count : ℕ) (ds : List Decl) (q : PRel) (file : File) : Type 0 where
+-- a file of these tokens, declarations and query, which left some of the parser's budget of nodes and isn't too deep
+pub record IsSmallFile (ts : List Token) (left : ℕ) (ds : List Decl) (q : PRel) (file : File) : Type 0 where
   pub spans : file.tokens ≡ map (λ t. t.span) ts
   pub decls : file.decls ≡ ds
   pub query : file.query ≡ q
-  pub counted : count ≤ 4096
+  pub some_left : 0 < left
   pub shallow : depth q ≤ 64
 
--- a tree that is too large by a count of its nodes, or too deep
+-- a tree that left nothing of the parser's budget of nodes, or is too deep
 abbrev pub IsLarge : ℕ → PRel → ParseError → Type 0
-IsLarge count q refusal.TooLarge = (count ≤ 4096) × (depth q ≤ 64) → ⊥
-IsLarge count q refusal.NotUtf8 = ⊥
-IsLarge count q (refusal.Syntax at) = ⊥
-IsLarge count q refusal.Memory = Unit {0}
+IsLarge left q refusal.TooLarge = (0 < left) × (depth q ≤ 64) → ⊥
+IsLarge left q refusal.NotUtf8 = ⊥
+IsLarge left q (refusal.Syntax at) = ⊥
+IsLarge left q refusal.Memory = Unit {0}
 
 -- why the tokens of a text make no file
 abbrev pub IsUnread : Bytes → List Token → ParseError → Type 0
@@ -84,6 +83,6 @@ IsRefused text refusal.NotUtf8 = (length text ≤ text_limit) × (IsUtf8 text �
 IsRefused text (refusal.Syntax at) = HasSyntaxFault text × (at ≤ length text)
 IsRefused text refusal.Memory = Unit {0}
 
--- the grammar derives at most one file from a list of lexemes that opens few parentheses, and a text has at most one
+-- the grammar derives at most one file from the tokens of a text that are within the limits
 abbrev pub HasOneTree : Bytes → Type 0
-HasOneTree text = (ts : List Token) (ds es : List Decl) (p q : PRel) → AreTokens text ts → IsFile (lexemes text ts) ds p → IsFile (lexemes text ts) es q → IsSmall p → (ds ≡ es) × (p ≡ q)
+HasOneTree text = (ts : List Token) (ds es : List Decl) (p q : PRel) → AreTokens text ts → IsFile (lexemes text ts) ds p → IsFile (lexemes text ts) es q → (ds ≡ es) × (p ≡ q)

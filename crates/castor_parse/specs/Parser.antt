@@ -1,7 +1,7 @@
 -- What the parser reads, rule by rule. The laws of the parser say that it reads what the grammar derives.
--- The parser counts the nodes that it makes. Past the limit it goes on reading, and puts an empty tree in
--- the place of each node.
-use Rattle.std.specs.Prelude.{◌≡◌, ℕ, zero, suc, ◌+◌, ◌-◌, ◌<◌, ◌^◌, pos, ◌-ℤ◌, Bool, true, false, if◌then◌else◌, min, nat_le, List, [], ◌∷◌, ◌++◌, length, drop, Option, Some, None, Result, Ok, Err}
+-- The parser has a budget of nodes. Where none of it is left the parser goes on reading, and puts an empty
+-- tree in the place of each node.
+use Rattle.std.specs.Prelude.{◌≡◌, ℕ, zero, suc, ◌+◌, ◌-◌, pos, ◌-ℤ◌, Bool, true, false, if◌then◌else◌, nat_lt, nat_le, List, [], ◌∷◌, ◌++◌, length, drop, Option, Some, None, Result, Ok, Err}
 use denote.Enum.Bare.{sameb}
 use Rattle.castor_val.specs.declared.value.Ty.{Ty}
 use Rattle.castor_val.specs.declared.value.Ty.TheVariants as ty
@@ -35,20 +35,22 @@ use Rattle.castor_parse.specs.declared.tree.PRel.TheVariants as r
 use Rattle.castor_parse.specs.Tokens.{Bytes}
 use Rattle.castor_parse.specs.Lexemes.{Lexeme, name, int, text, keyword, symbol, Lexemes}
 
--- where the parser is: the lexemes that are left, and how many nodes it made
+-- where the parser is: the lexemes that are left, and what is left of its budget of nodes
 pub record State : Type 0 where
   pub rest : Lexemes
-  pub nodes : ℕ
+  pub budget : ℕ
 
 abbrev pub at : Lexemes → ℕ → State
-at ts n = record { rest = ts; nodes = n }
+at ts n = record { rest = ts; budget = n }
 
-abbrev pub node_limit : ℕ
-node_limit = 4096
+-- One more than the number of nodes that a tree has at most: the nodes that are made are shown where some of the
+-- budget is left behind them.
+abbrev pub node_budget : ℕ
+node_budget = 4097
 
--- n nodes and k more, counted up to one more than the limit
-abbrev pub tally : ℕ → ℕ → ℕ
-tally n k = min (n + k) (node_limit + 1)
+-- what k nodes leave of a budget
+abbrev pub spend : ℕ → ℕ → ℕ
+spend n k = n - k
 
 -- ---- parsers
 
@@ -147,7 +149,7 @@ name_at (name w ∷ ts) n = Some (w, at ts n)
 name_at _ n = None
 
 unfoldable pub read_name : Parser Word
-read_name = λ st. name_at st.rest st.nodes
+read_name = λ st. name_at st.rest st.budget
 
 abbrev pub int_at : ℕ → Lexemes → ℕ → Outcome ℕ
 int_at limit (int k ∷ ts) n = if nat_le k limit then Some (k, at ts n) else None
@@ -155,24 +157,24 @@ int_at limit _ n = None
 
 -- an int of at most this much
 unfoldable pub read_int : ℕ → Parser ℕ
-read_int limit = λ st. int_at limit st.rest st.nodes
+read_int limit = λ st. int_at limit st.rest st.budget
 
 abbrev pub text_at : Lexemes → ℕ → Outcome Bytes
 text_at (text z ∷ ts) n = Some (z, at ts n)
 text_at _ n = None
 
 unfoldable pub read_text : Parser Bytes
-read_text = λ st. text_at st.rest st.nodes
+read_text = λ st. text_at st.rest st.budget
 
 -- ---- nodes
 
--- the tree while the nodes are within the limit, and the empty one past it
+-- the tree where some of the budget is left, and else the empty one
 abbrev pub shown : {A : Type 0} → A → A → ℕ → A
-shown empty x n = if nat_le n node_limit then x else empty
+shown empty x n = if nat_lt 0 n then x else empty
 
 -- one more node
 unfoldable pub node : {A : Type 0} → A → A → Parser A
-node empty x = λ st. Some (shown empty x (tally st.nodes 1), at st.rest (tally st.nodes 1))
+node empty x = λ st. Some (shown empty x (spend st.budget 1), at st.rest (spend st.budget 1))
 
 abbrev pub empty_expr : PExpr
 empty_expr = e.Lit ty.Bool (value.Bool false)

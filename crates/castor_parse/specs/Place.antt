@@ -6,7 +6,7 @@ use Rattle.castor_parse.specs.Lexemes.{lexemes}
 use Rattle.castor_parse.specs.Parser.{State}
 
 abbrev pub state_of : Inside → State
-state_of p = record { rest = lexemes p.text.now p.tokens.now; nodes = p.nodes }
+state_of p = record { rest = lexemes p.text.now p.tokens.now; budget = p.budget }
 
 -- the text is UTF-8, and the tokens stand in it
 pub record IsReady (p : Inside) : Type 0 where

@@ -54,12 +54,12 @@ impl From<Memory> for Stop {
 }
 
 /// How many nodes a tree has at most.
-pub const MAX_NODES: u64 = 4096;
+const MAX_NODES: u64 = 4096;
 
 /// A parser over the tokens of a text. Each rule of the grammar is a method, which reads from the next
 /// token on, and leaves the parser at the token that it can't read where it refuses.
 ///
-/// Nodes are counted as they are made. Past the limit the parser goes on reading, since a token that
+/// Nodes are made on a budget. Where none of it is left the parser goes on reading, since a token that
 /// can't stand where it does comes before a tree that is too large, and makes an empty tree in the place
 /// of each node, so that no tree gets deep.
 #[derive(Drop)]
@@ -68,8 +68,8 @@ pub struct Parser<'a> {
     text: &'a str,
     /// The tokens that are left.
     tokens: &'a [Token],
-    /// How many nodes were made, counted up to one more than the limit.
-    nodes: u64,
+    /// What is left of the budget of nodes: at least one where the tree isn't too large so far.
+    budget: u64,
 }
 
 impl<'a> Model for Parser<'a> {
@@ -88,13 +88,13 @@ impl<'a> Parser<'a> {
     pub fn new(alloc: Global, text: &'a str, tokens: &'a [Token]) -> Parser<'a>
         requires utf8 { IsUtf8 text.now }
         requires stand { All (Stands text.now) tokens.now }
-        ensures { result ≡ spec.at (lexemes text.now tokens.now) 0 }
+        ensures { result ≡ spec.at (lexemes text.now tokens.now) spec.node_budget }
     {
         Parser {
             alloc,
             text,
             tokens,
-            nodes: 0,
+            budget: MAX_NODES + 1,
         }
     }
 
@@ -110,11 +110,11 @@ impl<'a> Parser<'a> {
         self.tokens.len()
     }
 
-    /// How many nodes were made, counted up to one more than the limit.
-    pub fn nodes(&self) -> u64
-        ensures { result ≡ self.now.nodes }
+    /// What is left of the budget of nodes, nothing where the tree has too many.
+    pub fn budget(&self) -> u64
+        ensures { result ≡ self.now.budget }
     {
-        self.nodes
+        self.budget
     }
 
     /// Where the next token begins.
@@ -265,13 +265,13 @@ impl<'a> Parser<'a> {
         Ok(text)
     }
 
-    /// One more node: the tree while the nodes are within the limit, and an empty one past it.
+    /// One more node: the tree where some of the budget is left, and else an empty one.
     #[tactic(auto, unfolding(crate::specs::Parser::node))]
     pub fn node<T: Drop>(&mut self, empty: T, tree: T) -> T
         ensures { spec.node empty tree self.old ≡ Some (result, self.new) }
     {
-        self.nodes = self.nodes.saturating_add(1).min(MAX_NODES + 1);
-        if self.nodes <= MAX_NODES { tree } else { empty }
+        self.budget = self.budget.saturating_sub(1);
+        if self.budget > 0 { tree } else { empty }
     }
 }
 

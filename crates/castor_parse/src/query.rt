@@ -10,7 +10,7 @@ ghost use Rattle.castor_parse.specs.Parsed.{IsParsed, IsRefused, IsRead, IsUnrea
 use crate::cut::{CutError, tokens};
 use crate::depth::is_within;
 use crate::limits::are_within_limits;
-use crate::parser::{MAX_NODES, Parser, Stop};
+use crate::parser::{Parser, Stop};
 use crate::token::{Span, Token};
 use crate::tree::{Decl, File, PRel};
 use sqlite_items::Items;
@@ -69,18 +69,18 @@ fn spans(alloc: Global, tokens: &[Token]) -> Result<Items<Span>, AllocError>
     Ok(spans)
 }
 
-/// The file of a tree of so many nodes, if the tree isn't too large.
+/// The file of a tree that left so much of the budget of nodes, if the tree isn't too large.
 fn small_file(
     alloc: Global,
     tokens: &[Token],
-    nodes: u64,
+    left: u64,
     decls: Items<Decl>,
     query: PRel,
 ) -> Result<File, ParseError>
-    ensures ok { IfOk result (IsSmallFile tokens.now nodes decls query) }
-    ensures err { IfErr result (IsLarge nodes query) }
+    ensures ok { IfOk result (IsSmallFile tokens.now left decls query) }
+    ensures err { IfErr result (IsLarge left query) }
 {
-    if nodes > MAX_NODES {
+    if left == 0 {
         return Err(ParseError::TooLarge);
     }
     if !is_within(&query, MAX_DEPTH) {
@@ -110,7 +110,7 @@ fn file(alloc: Global, text: &str, tokens: &[Token]) -> Result<File, ParseError>
             let at = parser.place().unwrap_or(len).min(len);
             Err(ParseError::Syntax { at })
         }
-        Ok((decls, query)) => small_file(alloc, tokens, parser.nodes(), decls, query),
+        Ok((decls, query)) => small_file(alloc, tokens, parser.budget(), decls, query),
     }
 }
 

@@ -1,4 +1,4 @@
-use Rattle.std.proofs.Common.{is_ok, ◌+◌, ◌≤◌, sym, ap, arith, length, length-drop, drop}
+use Rattle.std.proofs.Common.{is_ok, ◌+◌, sym, ap, arith, length-drop}
 use Rattle.std.proofs.ResultArms.{chosen}
 use Rattle.std.proofs.lemmas.List.{take_rest}
 use Rattle.std.proofs.lemmas.List.Elements.{All-nil, All-push}

@@ -1,6 +1,6 @@
 use Rattle.std.proofs.Common.{rules, arith}
 use Rattle.std.proofs.lemmas.Grind.{common_steps}
-use Rattle.castor_parse.specs.Parser.{expr_at, read_or, read_and, read_not, read_sum, read_term, read_prim, chain_from, or_operator, and_operator, sum_operator, term_operator}
+use Rattle.castor_parse.specs.Parser.{expr_at, read_and, read_not, read_term, read_prim, chain_from, or_operator, and_operator, sum_operator, term_operator}
 use Rattle.castor_parse.proofs.Turns.{one_more, deeper}
 use Rattle.castor_parse.proofs.parser.Parser.+expr.Goals as goal
 

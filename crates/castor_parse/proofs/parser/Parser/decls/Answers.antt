@@ -1,6 +1,6 @@
 use Rattle.std.proofs.Common.{rules, arith}
 use Rattle.std.proofs.lemmas.Grind.{common_steps}
-use Rattle.castor_parse.specs.Parser.{read_decls, decls_from}
+use Rattle.castor_parse.specs.Parser.{decls_from}
 use Rattle.castor_parse.proofs.Turns.{one_more}
 use Rattle.castor_parse.proofs.parser.Parser.decls.Goals as goal
 

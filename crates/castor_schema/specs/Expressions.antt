@@ -3,10 +3,10 @@ use Rattle.std.specs.Prelude.{ℕ, List, [], Option, Some, None, Result, Ok, Err
 use Rattle.std.specs.Str.{bytes_eq}
 use Rattle.castor_val.specs.declared.column.Column.{Column}
 use Rattle.castor_val.specs.declared.value.Ty.{Ty}
-use Rattle.castor_val.specs.Values.{type_of_value}
 use Rattle.castor_alg.specs.declared.expr.Expr.{Expr}
 use Rattle.castor_alg.specs.declared.expr.Expr as core
 use Rattle.castor_alg.specs.declared.expr.Op.{Op}
+use Rattle.castor_alg.specs.Typing.{choice_type, literal_type, negation_type, operator_type}
 use Rattle.castor_parse.specs.declared.tree.PCol.{PCol}
 use Rattle.castor_parse.specs.declared.tree.PCol.TheVariants.{Name, Dotted, Number}
 use Rattle.castor_parse.specs.declared.tree.PExpr.{PExpr, fold-PExpr}
@@ -14,7 +14,6 @@ use Rattle.castor_parse.specs.declared.tree.PExpr.TheOpen.{PExpr-F, Col, ScopeAt
 use Rattle.castor_schema.specs.Names.{by_name, by_qualifier, column_number}
 use Rattle.castor_schema.specs.Scopes.{innermost}
 use Rattle.castor_schema.specs.Turns.{and_then}
-use Rattle.castor_schema.specs.Types.{operator_type, negation_type, choice_type}
 use Rattle.castor_schema.specs.declared.column.NamedColumn.{NamedColumn}
 use Rattle.castor_schema.specs.declared.declarations.Declarations.{Declarations}
 use Rattle.castor_schema.specs.declared.error.SchemaError.{SchemaError}
@@ -59,15 +58,15 @@ with_type e (Some type) = Ok (record { expr = e; ty = type })
 
 -- a binary operator over its sides
 unfoldable pub operation : Op → Typed → Typed → Result Typed SchemaError
-operation op a b = with_type (core.Bin op a.expr b.expr) (operator_type op a.ty b.ty)
+operation op a b = with_type (core.Bin op a.expr b.expr) (operator_type op (Some a.ty) (Some b.ty))
 
 -- `not` over its side
 unfoldable pub negation : Typed → Result Typed SchemaError
-negation a = with_type (core.Not a.expr) (negation_type a.ty)
+negation a = with_type (core.Not a.expr) (negation_type (Some a.ty))
 
 -- `if` over its condition and its sides
 unfoldable pub choice : Typed → Typed → Typed → Result Typed SchemaError
-choice condition a b = with_type (core.If condition.expr a.expr b.expr) (choice_type condition.ty a.ty b.ty)
+choice condition a b = with_type (core.If condition.expr a.expr b.expr) (choice_type (Some condition.ty) (Some a.ty) (Some b.ty))
 
 -- what an expression means takes what is declared, the scopes in force and the columns of the row
 abbrev pub Reading : Type 0
@@ -78,7 +77,7 @@ abbrev pub expression_step : PExpr-F Reading → Reading
 expression_step (Col c) known scopes columns = column_meant scopes columns c
 expression_step (ScopeAt word number) known scopes columns = scope_number (innermost scopes word.text) number
 expression_step (Param word) known scopes columns = parameter known.params word.text
-expression_step (Lit type value) known scopes columns = Ok (record { expr = core.Lit value; ty = type_of_value value })
+expression_step (Lit type value) known scopes columns = with_type (core.Lit value) (literal_type value)
 expression_step (Bin op a b) known scopes columns =
     and_then (a known scopes columns) (λ left.
     and_then (b known scopes columns) (λ right. operation op left right))

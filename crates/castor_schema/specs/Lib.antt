@@ -6,4 +6,4 @@ pub mod Outputs
 pub mod Relations
 pub mod Scopes
 pub mod Turns
-pub mod Types
+pub mod WellTyped

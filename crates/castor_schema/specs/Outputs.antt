@@ -9,6 +9,7 @@ use Rattle.castor_alg.specs.declared.expr.Expr.TheOpen.{Expr-F, Col, Scope as Sc
 use Rattle.castor_alg.specs.declared.rel.Agg.{Agg}
 use Rattle.castor_alg.specs.declared.rel.Agg.TheVariants.{Count, Sum, Min, Max}
 use Rattle.castor_alg.specs.declared.rel.Key.{Key}
+use Rattle.castor_alg.specs.Typing.{same_type}
 use Rattle.castor_parse.specs.declared.tree.Item.{Item}
 use Rattle.castor_parse.specs.declared.tree.PAgg.{PAgg}
 use Rattle.castor_parse.specs.declared.tree.PAgg.TheVariants as named
@@ -19,7 +20,6 @@ use Rattle.castor_schema.specs.Expressions.{expression}
 use Rattle.castor_schema.specs.Names.{called_or_numbered, column_called, column_number, column_numbered, the_column}
 use Rattle.castor_schema.specs.Scopes.{scope_column}
 use Rattle.castor_schema.specs.Turns.{and_then, in_order}
-use Rattle.castor_schema.specs.Types.{same_type}
 use Rattle.castor_schema.specs.declared.column.NamedColumn.{NamedColumn}
 use Rattle.castor_schema.specs.declared.declarations.Declarations.{Declarations}
 use Rattle.castor_schema.specs.declared.error.SchemaError.{SchemaError}
@@ -30,13 +30,13 @@ use Rattle.castor_schema.specs.declared.items.Output.{Output}
 use Rattle.castor_schema.specs.declared.items.Selection.{Selection}
 use Rattle.castor_schema.specs.declared.scopes.Scope.{Scope}
 
--- a column of the operand is kept
+-- a column of the operand keeps its name and its qualifier
 abbrev pub kept_column : List NamedColumn → ℕ → Ty → ℕ → NamedColumn
-kept_column columns number type at = option_map_or (λ (c : NamedColumn). c) (slice_get columns at) (column_numbered number type)
+kept_column columns number type at = option_map_or (λ (c : NamedColumn). record { name = c.name; qualifier = c.qualifier; ty = type }) (slice_get columns at) (column_numbered number type)
 
--- a column of a scope loses its qualifier
+-- a column of a scope keeps its name, and has no qualifier
 abbrev pub unqualified_column : List Scope → ℕ → Ty → ℕ → ℕ → NamedColumn
-unqualified_column scopes number type scope at = option_map_or (λ (c : NamedColumn). column_called c.name c.ty) (scope_column scopes scope at) (column_numbered number type)
+unqualified_column scopes number type scope at = option_map_or (λ (c : NamedColumn). column_called c.name type) (scope_column scopes scope at) (column_numbered number type)
 
 -- the column of an item without `as`
 unfoldable pub bare_column : List Scope → List NamedColumn → ℕ → Ty → Expr-F Expr → NamedColumn
@@ -96,7 +96,7 @@ grouping_found from keys aggs =
 -- a sum takes an int column
 unfoldable pub sums_ints : List NamedColumn → Agg → Bool
 sums_ints from Count = true
-sums_ints from (Sum at) = option_map_or (λ (c : NamedColumn). same_type c.ty Int) (slice_get from at) false
+sums_ints from (Sum at) = option_map_or (λ (c : NamedColumn). same_type Int c.ty) (slice_get from at) false
 sums_ints from (Min at) = true
 sums_ints from (Max at) = true
 

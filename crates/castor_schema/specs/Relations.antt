@@ -12,19 +12,23 @@ use Rattle.castor_alg.specs.declared.rel.Bound.TheVariants as bound
 use Rattle.castor_alg.specs.declared.rel.Key.{Key}
 use Rattle.castor_alg.specs.declared.rel.Rel.{Rel}
 use Rattle.castor_alg.specs.declared.rel.Rel as core
+use Rattle.castor_alg.specs.Typing.{same_type, same_types}
 use Rattle.castor_parse.specs.declared.tree.Item.{Item}
+use Rattle.castor_parse.specs.declared.tree.PAgg.{PAgg}
 use Rattle.castor_parse.specs.declared.tree.PBound.{PBound}
 use Rattle.castor_parse.specs.declared.tree.PBound.TheVariants.{Any, Incl, Excl}
+use Rattle.castor_parse.specs.declared.tree.PCol.{PCol}
 use Rattle.castor_parse.specs.declared.tree.PExpr.{PExpr}
 use Rattle.castor_parse.specs.declared.tree.PRel.{PRel, fold-PRel}
 use Rattle.castor_parse.specs.declared.tree.PRel.TheOpen as rel
 use Rattle.castor_parse.specs.declared.tree.PRel.TheOpen.{PRel-F}
+use Rattle.castor_parse.specs.declared.tree.Word.{Word}
 use Rattle.castor_schema.specs.Expressions.{expression}
 use Rattle.castor_schema.specs.Names.{columns_of_table, types_of}
 use Rattle.castor_schema.specs.Outputs.{grouping_found, item_output, items_selected, sorting_keys, sums_ints}
 use Rattle.castor_schema.specs.Turns.{and_then, in_order}
-use Rattle.castor_schema.specs.Types.{same_type, same_types}
 use Rattle.castor_schema.specs.declared.bounds.TypedBound.{TypedBound}
+use Rattle.castor_schema.specs.declared.bounds.TypedRange.{TypedRange}
 use Rattle.castor_schema.specs.declared.checked.Declared.{Declared}
 use Rattle.castor_schema.specs.declared.column.NamedColumn.{NamedColumn}
 use Rattle.castor_schema.specs.declared.declarations.Declarations.{Declarations}
@@ -36,6 +40,7 @@ use Rattle.castor_schema.specs.declared.groups.Grouping.{Grouping}
 use Rattle.castor_schema.specs.declared.indexes.IndexKeys.{IndexKeys}
 use Rattle.castor_schema.specs.declared.items.Output.{Output}
 use Rattle.castor_schema.specs.declared.items.Selection.{Selection}
+use Rattle.castor_schema.specs.declared.operators.Joining.{Joining}
 use Rattle.castor_schema.specs.declared.relation.Binding.{Binding}
 use Rattle.castor_schema.specs.declared.relation.Crossing.{Crossing}
 use Rattle.castor_schema.specs.declared.relation.Operands.{Operands}
@@ -68,19 +73,24 @@ selected known scopes items from =
 -- `filter` takes a bool, and keeps its operand's columns
 unfoldable pub filtered_by : Found → Typed → Result Found SchemaError
 filtered_by from test =
-    if same_type test.ty Truth then Ok (record { query = core.Filter test.expr from.query; columns = from.columns; next = from.next })
+    if same_type Truth test.ty then Ok (record { query = core.Filter test.expr from.query; columns = from.columns; next = from.next })
     else Err TypeMismatch
 
 -- `filter`: an expression over the operand's columns
 unfoldable pub filtered : Declarations → List Scope → PExpr → Found → Result Found SchemaError
 filtered known scopes e from = and_then (expression e known scopes from.columns) (λ test. filtered_by from test)
 
--- `join`: a bool over the columns of both operands
+-- the operands of a `join`, and the columns of both
+abbrev pub side_by_side : Found → Found → Joining
+side_by_side left right = record { left = left.query; right = right.query; columns = left.columns ++ right.columns; next = right.next }
+
+-- `join` takes a bool, and has the columns of both operands
+unfoldable pub joined_by : Joining → Typed → Result Found SchemaError
+joined_by both test = if same_type Truth test.ty then limited (core.Join test.expr both.left both.right) both.columns both.next else Err TypeMismatch
+
+-- `join`: an expression over the columns of both operands
 unfoldable pub joined : Declarations → List Scope → PExpr → Found → Found → Result Found SchemaError
-joined known scopes e left right =
-    and_then (expression e known scopes (left.columns ++ right.columns)) (λ (test : Typed).
-    if same_type test.ty Truth then limited (core.Join test.expr left.query right.query) (left.columns ++ right.columns) right.next
-    else Err TypeMismatch)
+joined known scopes e left right = and_then (expression e known scopes (left.columns ++ right.columns)) (λ test. joined_by (side_by_side left right) test)
 
 -- there is no key and no aggregate
 abbrev pub is_no_grouping : List ℕ → List Agg → Bool
@@ -88,31 +98,39 @@ is_no_grouping [] [] = true
 is_no_grouping [] (agg ∷ aggs) = false
 is_no_grouping (key ∷ keys) aggs = false
 
--- `groupby`: a key or an aggregate, and sums of ints
+-- `groupby` sums ints alone
+unfoldable pub summed_by : Found → Grouping → Result Found SchemaError
+summed_by from found =
+    if list_all (sums_ints from.columns) found.aggs then limited (core.Group found.keys found.aggs from.query) found.columns from.next
+    else Err TypeMismatch
+
+-- `groupby`: a key or an aggregate, then sums of ints
 unfoldable pub grouped_by : Found → Grouping → Result Found SchemaError
-grouped_by from found =
-    if is_no_grouping found.keys found.aggs then Err WrongCount
-    else (if list_all (sums_ints from.columns) found.aggs then limited (core.Group found.keys found.aggs from.query) found.columns from.next
-    else Err TypeMismatch)
+grouped_by from found = if is_no_grouping found.keys found.aggs then Err WrongCount else summed_by from found
+
+-- `groupby`: keys and aggregates over the operand's columns
+unfoldable pub grouped : List PCol → List (PAgg × Option Word) → Found → Result Found SchemaError
+grouped keys aggs from = and_then (grouping_found from.columns keys aggs) (λ found. grouped_by from found)
 
 -- `orderby`: at most 65,535 keys
 unfoldable pub ordered_by : Found → List Key → Result Found SchemaError
 ordered_by from keys = if nat_lt 65535 (length keys) then Err TooLarge else Ok (record { query = core.Order keys from.query; columns = from.columns; next = from.next })
 
--- as many columns in each operand as in the first
-abbrev pub same_widths : List (List NamedColumn) → Bool
-same_widths [] = true
-same_widths (first ∷ rest) = list_all (λ (columns : List NamedColumn). length columns == length first) rest
-
--- the column types of the first operand in each
-abbrev pub same_column_types : List (List NamedColumn) → Bool
-same_column_types [] = true
-same_column_types (first ∷ rest) = list_all (λ (columns : List NamedColumn). same_types (types_of columns) (types_of first)) rest
+-- `orderby`: keys over the operand's columns
+unfoldable pub ordered : List (PCol × Bool) → Found → Result Found SchemaError
+ordered keys from = and_then (sorting_keys from.columns keys) (λ found. ordered_by from found)
 
 -- the columns of the first operand
 abbrev pub first_columns : List (List NamedColumn) → List NamedColumn
-first_columns [] = []
-first_columns (first ∷ rest) = first
+first_columns operands = option_map_or (λ (columns : List NamedColumn). columns) (slice_get operands 0) []
+
+-- as many columns in each operand as in the first
+abbrev pub same_widths : List (List NamedColumn) → Bool
+same_widths operands = list_all (λ (columns : List NamedColumn). length columns == length (first_columns operands)) operands
+
+-- the column types of the first operand in each
+abbrev pub same_column_types : List (List NamedColumn) → Bool
+same_column_types operands = list_all (λ (columns : List NamedColumn). same_types (types_of (first_columns operands)) (types_of columns)) operands
 
 -- `concat`: operands of the same column types
 unfoldable pub concatenated : Operands → Result Found SchemaError
@@ -142,24 +160,38 @@ hashed binding keys =
     else (if not (same_types (types_of binding.columns) keys.types) then Err TypeMismatch
     else Ok (record { query = core.Hash binding.number binding.source binding.body.query keys.exprs; columns = binding.body.columns; next = binding.body.next }))
 
+-- `hash`: its keys over no columns
+unfoldable pub hashed_by : Declarations → List Scope → List PExpr → Binding → Result Found SchemaError
+hashed_by known scopes es binding = and_then (index_keys known scopes es) (λ keys. hashed binding keys)
+
 -- one end of a range, which reads no columns
 unfoldable pub bound_found : Declarations → List Scope → PBound → Result TypedBound SchemaError
 bound_found known scopes Any = Ok (record { bound = bound.Any; ty = None })
 bound_found known scopes (Incl e) = and_then (expression e known scopes []) (λ (end : Typed). Ok (record { bound = bound.Incl end.expr; ty = Some end.ty }))
 bound_found known scopes (Excl e) = and_then (expression e known scopes []) (λ (end : Typed). Ok (record { bound = bound.Excl end.expr; ty = Some end.ty }))
 
+-- both ends of a range
+unfoldable pub range_found : Declarations → List Scope → PBound → PBound → Result TypedRange SchemaError
+range_found known scopes lo hi =
+    and_then (bound_found known scopes lo) (λ lower.
+    and_then (bound_found known scopes hi) (λ upper. Ok (record { lower = lower; upper = upper })))
+
 -- no limit, or one of the type
 abbrev pub is_bound_of : Ty → TypedBound → Bool
-is_bound_of type end = option_map_or (λ own. same_type own type) end.ty true
+is_bound_of type end = option_map_or (λ own. same_type type own) end.ty true
 
 -- `ordered`: a source of one column, and bounds of its type
-unfoldable pub ranged : Binding → TypedBound → TypedBound → List NamedColumn → Result Found SchemaError
-ranged binding lower upper [] = Err WrongCount
-ranged binding lower upper (c ∷ []) =
-    if is_bound_of c.ty lower && is_bound_of c.ty upper
-    then Ok (record { query = core.Ord binding.number binding.source binding.body.query lower.bound upper.bound; columns = binding.body.columns; next = binding.body.next })
+unfoldable pub ranged : Binding → TypedRange → List NamedColumn → Result Found SchemaError
+ranged binding range [] = Err WrongCount
+ranged binding range (c ∷ []) =
+    if is_bound_of c.ty range.lower && is_bound_of c.ty range.upper
+    then Ok (record { query = core.Ord binding.number binding.source binding.body.query range.lower.bound range.upper.bound; columns = binding.body.columns; next = binding.body.next })
     else Err TypeMismatch
-ranged binding lower upper (c ∷ d ∷ more) = Err WrongCount
+ranged binding range (c ∷ d ∷ more) = Err WrongCount
+
+-- `ordered`: its bounds over no columns
+unfoldable pub ranged_by : Declarations → List Scope → PBound → PBound → Binding → Result Found SchemaError
+ranged_by known scopes lo hi binding = and_then (range_found known scopes lo hi) (λ range. ranged binding range binding.columns)
 
 -- what a relation means takes what is declared, the scopes in force and the number of the next binder
 abbrev pub Finding : Type 0
@@ -173,11 +205,10 @@ scope_over number name from = record { number = number; name = name; columns = f
 unfoldable pub binding_of : Scope → Rel → Found → Result Binding SchemaError
 binding_of scope source body = Ok (record { number = scope.number; source = source; columns = scope.columns; body = body })
 
--- a binder takes the next number; its scope is in force in its body alone
-unfoldable pub bound_by : Finding → Finding → List ℕ → Declarations → List Scope → ℕ → Result Binding SchemaError
-bound_by r s name known scopes next =
-    and_then (r known scopes (next + 1)) (λ (from : Found).
-    and_then (s known (scope_over next name from ∷ scopes) from.next) (λ body. binding_of (scope_over next name from) from.query body))
+-- the body of a binder over its source: the binder's scope is in force in it
+unfoldable pub bound_over : Finding → List ℕ → Declarations → List Scope → ℕ → Found → Result Binding SchemaError
+bound_over s name known scopes next from =
+    and_then (s known (scope_over next name from ∷ scopes) from.next) (λ body. binding_of (scope_over next name from) from.query body)
 
 -- one more operand of a `cross`
 unfoldable pub with_crossed : Declarations → List Scope → Crossing → Finding → Result Crossing SchemaError
@@ -203,7 +234,7 @@ listed binding = Ok (record { query = core.List binding.number binding.source bi
 unfoldable pub deduped : Found → Result Found SchemaError
 deduped from = Ok (record { query = core.Dedup from.query; columns = from.columns; next = from.next })
 
--- one operator
+-- one operator; a binder takes the next number, and its scope is in force in its body alone
 abbrev pub relation_step : PRel-F Finding → Finding
 relation_step (rel.Table word) known scopes next = table_found known.tables next word.text
 relation_step (rel.Scalar item) known scopes next = scalar_found known scopes next item
@@ -217,21 +248,22 @@ relation_step (rel.Filter e r) known scopes next = and_then (r known scopes next
 relation_step (rel.Join e r s) known scopes next =
     and_then (r known scopes next) (λ (left : Found).
     and_then (s known scopes left.next) (λ right. joined known scopes e left right))
-relation_step (rel.DepJoin word r s) known scopes next = and_then (bound_by r s word.text known scopes next) (λ binding. depjoined binding)
-relation_step (rel.List word r s) known scopes next = and_then (bound_by r s word.text known scopes next) (λ binding. listed binding)
+relation_step (rel.DepJoin word r s) known scopes next =
+    and_then (r known scopes (next + 1)) (λ from.
+    and_then (bound_over s word.text known scopes next from) (λ binding. depjoined binding))
+relation_step (rel.List word r s) known scopes next =
+    and_then (r known scopes (next + 1)) (λ from.
+    and_then (bound_over s word.text known scopes next from) (λ binding. listed binding))
 relation_step (rel.Hash word r s es) known scopes next =
-    and_then (bound_by r s word.text known scopes next) (λ binding.
-    and_then (index_keys known scopes es) (λ keys. hashed binding keys))
+    and_then (r known scopes (next + 1)) (λ from.
+    and_then (bound_over s word.text known scopes next from) (λ binding. hashed_by known scopes es binding))
 relation_step (rel.Ord word r s lo hi) known scopes next =
-    and_then (bound_by r s word.text known scopes next) (λ (binding : Binding).
-    and_then (bound_found known scopes lo) (λ lower.
-    and_then (bound_found known scopes hi) (λ upper. ranged binding lower upper binding.columns)))
+    and_then (r known scopes (next + 1)) (λ from.
+    and_then (bound_over s word.text known scopes next from) (λ binding. ranged_by known scopes lo hi binding))
 relation_step (rel.Group keys aggs r) known scopes next =
-    and_then (r known scopes next) (λ (from : Found).
-    and_then (grouping_found from.columns keys aggs) (λ found. grouped_by from found))
+    and_then (r known scopes next) (λ from. grouped keys aggs from)
 relation_step (rel.Order keys r) known scopes next =
-    and_then (r known scopes next) (λ (from : Found).
-    and_then (sorting_keys from.columns keys) (λ found. ordered_by from found))
+    and_then (r known scopes next) (λ from. ordered keys from)
 relation_step (rel.Dedup r) known scopes next = and_then (r known scopes next) (λ from. deduped from)
 
 -- what a relation of names means

@@ -2,7 +2,7 @@
 
 ghost use Rattle.std.specs.Prelude.{◌≡◌};
 ghost use Rattle.castor_val.specs.Gives.{Gives};
-ghost use Rattle.castor_schema.specs.Relations.{bound_found, is_bound_of};
+ghost use Rattle.castor_schema.specs.Relations.{bound_found, is_bound_of, range_found};
 ghost use Rattle.castor_schema.specs.Scopes.{scopes_of};
 ghost use Rattle.castor_schema.specs.declared.error.SchemaError.TheVariants as error;
 
@@ -21,6 +21,13 @@ use std::alloc::Global;
 pub struct TypedBound {
     pub bound: Bound,
     pub ty: Option<Ty>,
+}
+
+/// Both ends of a range.
+#[derive(Drop)]
+pub struct TypedRange {
+    pub lower: TypedBound,
+    pub upper: TypedBound,
 }
 
 /// What one end of a range means, or the first refusal. It reads no columns.
@@ -55,12 +62,28 @@ pub fn bound_found(
     }
 }
 
+/// What both ends of a range mean, or the first refusal.
+#[tactic(auto, unfolding(crate::specs::Relations::range_found))]
+pub fn range_found(
+    alloc: Global,
+    known: &Declarations,
+    scopes: &Scopes<'_>,
+    lo: &PBound,
+    hi: &PBound,
+) -> Result<TypedRange, SchemaError>
+    ensures { Gives (λ range. range) error.Memory (range_found known.now (scopes_of scopes.now) lo.now hi.now) result }
+{
+    let lower = bound_found(alloc, known, scopes, lo)?;
+    let upper = bound_found(alloc, known, scopes, hi)?;
+    Ok(TypedRange { lower, upper })
+}
+
 /// Whether it is no limit, or one of the type.
 pub fn is_bound_of(ty: Ty, end: &TypedBound) -> bool
     ensures { result ≡ is_bound_of ty end.now }
 {
     match end.ty {
-        Some(own) => is_same_type(own, ty),
+        Some(own) => is_same_type(ty, own),
         None => true,
     }
 }

@@ -41,6 +41,19 @@ fn copy_qualifier(alloc: Global, qualifier: &Option<Text>) -> Result<Option<Text
     }
 }
 
+/// A column of this type, with the name and the qualifier of another.
+pub fn column_kept(alloc: Global, column: &NamedColumn, ty: Ty) -> Result<NamedColumn, Memory>
+    ensures { IfOk result (λ c. c ≡ record { name = column.now.name; qualifier = column.now.qualifier; ty = ty }) }
+{
+    let name = column.name.copy(alloc)?;
+    let qualifier = copy_qualifier(alloc, &column.qualifier)?;
+    Ok(NamedColumn {
+        name,
+        qualifier,
+        ty,
+    })
+}
+
 /// A column that is named so.
 pub fn column_called(alloc: Global, name: &Text, ty: Ty) -> Result<NamedColumn, Memory>
     ensures { IfOk result (λ c. c ≡ column_called name.now ty) }

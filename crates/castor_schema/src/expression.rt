@@ -13,7 +13,7 @@ use crate::declarations::Declarations;
 use crate::error::SchemaError;
 use crate::names::{by_name, by_qualifier, column_number, is_same, number_of};
 use crate::scopes::{Scope, Scopes, innermost};
-use crate::types::{choice_type, negation_type, operator_type};
+use crate::types::{choice_type, literal_type, negation_type, operator_type};
 use castor_alg::{Expr, Op};
 use castor_parse::{PCol, PExpr};
 use castor_val::{Column, Text, Ty};
@@ -166,10 +166,7 @@ pub fn expression(
         PExpr::Col(col) => column_meant(scopes, columns, col),
         PExpr::ScopeAt(word, number) => scope_number(scopes, &word.text, *number),
         PExpr::Param(word) => parameter(known.params.as_slice(), &word.text),
-        PExpr::Lit(_, value) => Ok(Typed {
-            expr: Expr::Lit(value.copy(alloc)?),
-            ty: value.ty(),
-        }),
+        PExpr::Lit(_, value) => with_type(Expr::Lit(value.copy(alloc)?), literal_type(value)),
         PExpr::Bin(op, a, b) => {
             let a = expression(alloc, known, scopes, columns, a.get())?;
             let b = expression(alloc, known, scopes, columns, b.get())?;

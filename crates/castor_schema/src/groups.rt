@@ -153,7 +153,7 @@ fn sums_ints(from: &[NamedColumn], agg: Agg) -> bool
 {
     match agg {
         Agg::Sum(place) => match at(from, place as usize) {
-            Some(column) => is_same_type(column.ty, Ty::Int),
+            Some(column) => is_same_type(Ty::Int, column.ty),
             None => false,
         },
         Agg::Count | Agg::Min(_) | Agg::Max(_) => true,

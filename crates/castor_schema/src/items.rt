@@ -7,7 +7,7 @@ ghost use Rattle.castor_schema.specs.Outputs.{bare_column, item_column, item_out
 ghost use Rattle.castor_schema.specs.Scopes.{scopes_of};
 ghost use Rattle.castor_schema.specs.declared.error.SchemaError.TheVariants as error;
 
-use crate::column::{NamedColumn, column_called, column_numbered};
+use crate::column::{NamedColumn, column_called, column_kept, column_numbered};
 use crate::declarations::Declarations;
 use crate::error::SchemaError;
 use crate::expression::{Typed, expression};
@@ -42,7 +42,7 @@ fn kept_column(
     ensures { IfOk result (λ c. c ≡ kept_column columns.now number ty place) }
 {
     match at(columns, place as usize) {
-        Some(column) => Ok(column.copy(alloc)?),
+        Some(column) => Ok(column_kept(alloc, column, ty)?),
         None => Ok(column_numbered(alloc, number, ty)?),
     }
 }
@@ -58,7 +58,7 @@ fn unqualified_column(
     ensures { IfOk result (λ c. c ≡ unqualified_column (scopes_of scopes.now) number ty scope place) }
 {
     match scope_column(scopes, scope, place) {
-        Some(column) => Ok(column_called(alloc, &column.name, column.ty)?),
+        Some(column) => Ok(column_called(alloc, &column.name, ty)?),
         None => Ok(column_numbered(alloc, number, ty)?),
     }
 }

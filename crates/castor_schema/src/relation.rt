@@ -1,26 +1,24 @@
 //! What relations of names mean, and their columns.
 
-ghost use Rattle.std.specs.Prelude.{◌≡◌, [], map};
+ghost use Rattle.std.specs.Prelude.{◌≡◌, ◌+◌, ◌++◌, [], ◌∷◌, IfOk, map};
 ghost use Rattle.castor_val.specs.Gives.{Gives};
-ghost use Rattle.castor_schema.specs.Relations.{binding_of, bound_by, relation, with_crossed, with_operand};
+ghost use Rattle.castor_schema.specs.Relations.{binding_of, bound_over, relation, scope_over, with_crossed, with_operand};
 ghost use Rattle.castor_schema.specs.Scopes.{scopes_of};
 ghost use Rattle.castor_schema.specs.Turns.{in_order};
 ghost use Rattle.castor_schema.specs.declared.error.SchemaError.TheVariants as error;
 
-use crate::bounds::bound_found;
 use crate::column::NamedColumn;
 use crate::declarations::Declarations;
 use crate::error::SchemaError;
 use crate::found::Found;
-use crate::groups::{grouping_found, sorting_keys};
-use crate::indexes::index_keys;
 use crate::operators::{
-    concatenated, deduped, depjoined, filtered, grouped_by, hashed, joined, limited, listed, ordered_by,
-    ranged, scalar_found, selected, table_found,
+    concatenated, deduped, depjoined, filtered, grouped, hashed_by, joined, limited, listed, ordered,
+    ranged_by, scalar_found, selected, table_found,
 };
 use crate::scopes::{Scope, Scopes};
 use castor_alg::Rel;
 use castor_parse::{PRel, Word};
+use castor_val::{Memory, Text};
 use sqlite_items::Items;
 use std::alloc::Global;
 
@@ -47,6 +45,14 @@ pub struct Binding {
     pub source: Rel,
     pub columns: Items<NamedColumn>,
     pub body: Found,
+}
+
+/// A binder whose source is found: its scope, the source, and the number of the next binder.
+#[derive(Drop)]
+pub struct Opened {
+    pub scope: Scope,
+    pub source: Rel,
+    pub next: u32,
 }
 
 /// What a relation means under declarations and the scopes in force, where its binders are numbered
@@ -86,33 +92,32 @@ pub fn relation(
             joined(alloc, known, scopes, e, left, right)
         }
         PRel::DepJoin(word, r, s) => {
-            let binding = bound_by(alloc, known, scopes, next, word, r.get(), s.get())?;
+            let from = source_found(alloc, known, scopes, next, r.get())?;
+            let binding = bound_over(alloc, known, scopes, next, word, s.get(), from)?;
             depjoined(alloc, binding)
         }
         PRel::List(word, r, s) => {
-            let binding = bound_by(alloc, known, scopes, next, word, r.get(), s.get())?;
+            let from = source_found(alloc, known, scopes, next, r.get())?;
+            let binding = bound_over(alloc, known, scopes, next, word, s.get(), from)?;
             listed(alloc, binding)
         }
         PRel::Hash(word, r, s, es) => {
-            let binding = bound_by(alloc, known, scopes, next, word, r.get(), s.get())?;
-            let keys = index_keys(alloc, known, scopes, es.as_slice())?;
-            hashed(alloc, binding, keys)
+            let from = source_found(alloc, known, scopes, next, r.get())?;
+            let binding = bound_over(alloc, known, scopes, next, word, s.get(), from)?;
+            hashed_by(alloc, known, scopes, es.as_slice(), binding)
         }
         PRel::Ord(word, r, s, lo, hi) => {
-            let binding = bound_by(alloc, known, scopes, next, word, r.get(), s.get())?;
-            let lower = bound_found(alloc, known, scopes, lo)?;
-            let upper = bound_found(alloc, known, scopes, hi)?;
-            ranged(alloc, binding, lower, upper)
+            let from = source_found(alloc, known, scopes, next, r.get())?;
+            let binding = bound_over(alloc, known, scopes, next, word, s.get(), from)?;
+            ranged_by(alloc, known, scopes, lo, hi, binding)
         }
         PRel::Group(keys, aggs, r) => {
             let from = relation(alloc, known, scopes, next, r.get())?;
-            let found = grouping_found(alloc, from.columns.as_slice(), keys.as_slice(), aggs.as_slice())?;
-            grouped_by(alloc, from, found)
+            grouped(alloc, keys.as_slice(), aggs.as_slice(), from)
         }
         PRel::Order(keys, r) => {
             let from = relation(alloc, known, scopes, next, r.get())?;
-            let found = sorting_keys(alloc, from.columns.as_slice(), keys.as_slice())?;
-            ordered_by(alloc, from, found)
+            ordered(alloc, keys.as_slice(), from)
         }
         PRel::Dedup(r) => {
             let from = relation(alloc, known, scopes, next, r.get())?;
@@ -121,43 +126,107 @@ pub fn relation(
     }
 }
 
-#[tactic(auto, unfolding(crate::specs::Relations::binding_of))]
-fn binding_of(scope: Scope, source: Rel, body: Found) -> Result<Binding, SchemaError>
-    ensures { result ≡ binding_of scope source body }
+fn open_scope(alloc: Global, number: u32, name: &Text, from: Found) -> Result<Opened, Memory>
+    ensures { IfOk result (λ opened. opened ≡ record { scope = scope_over number name.now from; source = from.query; next = from.next }) }
 {
-    Ok(Binding {
-        number: scope.number,
+    let Found {
+        query: source,
+        columns,
+        next,
+    } = from;
+    let name = name.copy(alloc)?;
+    let scope = Scope {
+        number,
+        name,
+        columns,
+    };
+    Ok(Opened {
+        scope,
         source,
-        columns: scope.columns,
+        next,
+    })
+}
+
+#[tactic(auto, unfolding(crate::specs::Relations::binding_of))]
+fn binding_of(opened: Opened, body: Found) -> Result<Binding, SchemaError>
+    ensures { result ≡ binding_of opened.scope opened.source body }
+{
+    let Opened {
+        scope,
+        source,
+        next: _,
+    } = opened;
+    let Scope {
+        number,
+        name: _,
+        columns,
+    } = scope;
+    Ok(Binding {
+        number,
+        source,
+        columns,
         body,
     })
 }
 
-/// A binder's source, and its body with the scope in force. A file with 2^32 binders is in no memory.
+/// A binder's source. A file with 2^32 binders is in no memory.
 #[cycle(relation)]
-#[tactic(auto, unfolding(crate::specs::Relations::bound_by))]
-fn bound_by(
+fn source_found(
+    alloc: Global,
+    known: &Declarations,
+    scopes: &Scopes<'_>,
+    next: u32,
+    source: &PRel,
+) -> Result<Found, SchemaError>
+    ensures { Gives (λ found. found) error.Memory (relation source.now known.now (scopes_of scopes.now) (next + 1)) result }
+{
+    match next.checked_add(1) {
+        Some(after) => relation(alloc, known, scopes, after, source),
+        None => Err(SchemaError::Memory),
+    }
+}
+
+/// A binder over its source.
+#[cycle(relation)]
+#[tactic(auto, unfolding(crate::specs::Relations::bound_over))]
+fn bound_over(
     alloc: Global,
     known: &Declarations,
     scopes: &Scopes<'_>,
     next: u32,
     word: &Word,
-    source: &PRel,
     body: &PRel,
+    from: Found,
 ) -> Result<Binding, SchemaError>
-    ensures { Gives (λ binding. binding) error.Memory (bound_by (relation source.now) (relation body.now) word.now.text known.now (scopes_of scopes.now) next) result }
+    ensures { Gives (λ binding. binding) error.Memory (bound_over (relation body.now) word.now.text known.now (scopes_of scopes.now) next from) result }
 {
-    let Some(after) = next.checked_add(1) else {
-        return Err(SchemaError::Memory);
-    };
-    let from = relation(alloc, known, scopes, after, source)?;
-    let scope = Scope {
-        number: next,
-        name: word.text.copy(alloc)?,
-        columns: from.columns,
-    };
-    let body = relation(alloc, known, &Scopes::Inner(&scope, scopes), from.next, body)?;
-    binding_of(scope, from.query, body)
+    let opened = open_scope(alloc, next, &word.text, from)?;
+    let inside = body_found(alloc, known, body, opened.next, &opened.scope, &*scopes)?;
+    binding_of(opened, inside)
+}
+
+/// A binder's body, with its scope in force.
+#[cycle(relation)]
+fn body_found<'s>(
+    alloc: Global,
+    known: &Declarations,
+    body: &PRel,
+    next: u32,
+    scope: &'s Scope,
+    outer: &'s Scopes<'s>,
+) -> Result<Found, SchemaError>
+    ensures { Gives (λ found. found) error.Memory (relation body.now known.now (scope.now ∷ scopes_of outer.now) next) result }
+{
+    relation(alloc, known, &Scopes::Inner(scope, outer), next, body)
+}
+
+fn more_crossed(mut found: Crossing, more: Found) -> Result<Crossing, Memory>
+    ensures { IfOk result (λ all. all ≡ record { queries = found.queries ++ more.query ∷ []; columns = found.columns ++ more.columns; next = more.next }) }
+{
+    found.queries.push(more.query)?;
+    found.columns.append(more.columns)?;
+    found.next = more.next;
+    Ok(found)
 }
 
 #[cycle(relation)]
@@ -178,10 +247,17 @@ fn crossed(
     };
     for query in queries {
         let more = relation(alloc, known, scopes, found.next, query)?;
-        found.queries.push(more.query)?;
-        found.columns.append(more.columns)?;
-        found.next = more.next;
+        found = more_crossed(found, more)?;
     }
+    Ok(found)
+}
+
+fn more_operands(mut found: Operands, more: Found) -> Result<Operands, Memory>
+    ensures { IfOk result (λ all. all ≡ record { queries = found.queries ++ more.query ∷ []; columns = found.columns ++ more.columns ∷ []; next = more.next }) }
+{
+    found.queries.push(more.query)?;
+    found.columns.push(more.columns)?;
+    found.next = more.next;
     Ok(found)
 }
 
@@ -203,9 +279,7 @@ fn operands_found(
     };
     for query in queries {
         let more = relation(alloc, known, scopes, found.next, query)?;
-        found.queries.push(more.query)?;
-        found.columns.push(more.columns)?;
-        found.next = more.next;
+        found = more_operands(found, more)?;
     }
     Ok(found)
 }

@@ -1,12 +1,13 @@
 //! Which types operators take and give.
 
-ghost use Rattle.std.specs.Prelude.{◌≡◌, map};
+ghost use Rattle.std.specs.Prelude.{◌≡◌, ◌&&◌, Some};
+ghost use Rattle.castor_alg.specs.declared.expr.Op.TheVariants as op;
 ghost use Rattle.castor_schema.specs.Names.{types_of};
-ghost use Rattle.castor_schema.specs.Types.{choice_type, comparison_type, from_both, negation_type, operator_type, same_type, same_types};
+ghost use Rattle.castor_alg.specs.Typing.{agreed, allowed, choice_type, is_of, literal_type, negation_type, operator_type, same_type, same_types};
 
 use crate::column::NamedColumn;
 use castor_alg::Op;
-use castor_val::Ty;
+use castor_val::{MAX_TEXT, Ty, Value};
 
 /// Whether the two are one type.
 pub fn is_same_type(a: Ty, b: Ty) -> bool
@@ -15,18 +16,35 @@ pub fn is_same_type(a: Ty, b: Ty) -> bool
     a == b
 }
 
-fn from_both(takes: Ty, gives: Ty, a: Ty, b: Ty) -> Option<Ty>
-    ensures { result ≡ from_both takes gives a b }
+fn allowed(condition: bool, ty: Ty) -> Option<Ty>
+    ensures { result ≡ allowed condition ty }
 {
-    if is_same_type(a, takes) && is_same_type(b, takes) {
-        Some(gives)
-    } else {
-        None
+    if condition { Some(ty) } else { None }
+}
+
+/// The type of a literal, where it is a value: a text has at most 65,535 bytes.
+pub fn literal_type(literal: &Value) -> Option<Ty>
+    ensures { result ≡ literal_type literal.now }
+{
+    match literal {
+        Value::Int(number) => {
+            // Read, so that the proof knows it as an int of 64 bits.
+            let _number = *number;
+            Some(Ty::Int)
+        }
+        Value::Bool(_) => Some(Ty::Bool),
+        Value::Text(text) => allowed(text.as_str().len() <= MAX_TEXT, Ty::Text),
     }
 }
 
+fn from_both(takes: Ty, gives: Ty, a: Ty, b: Ty) -> Option<Ty>
+    ensures { result ≡ allowed (is_of takes (Some a) && is_of takes (Some b)) gives }
+{
+    allowed(is_same_type(takes, a) && is_same_type(takes, b), gives)
+}
+
 fn comparison_type(a: Ty, b: Ty) -> Option<Ty>
-    ensures { result ≡ comparison_type a b }
+    ensures { result ≡ operator_type op.Eq (Some a) (Some b) }
 {
     if is_same_type(a, b) {
         Some(Ty::Bool)
@@ -37,7 +55,7 @@ fn comparison_type(a: Ty, b: Ty) -> Option<Ty>
 
 /// The type of a binary operator over sides of these types, where it takes them.
 pub fn operator_type(op: Op, a: Ty, b: Ty) -> Option<Ty>
-    ensures { result ≡ operator_type op a b }
+    ensures { result ≡ operator_type op (Some a) (Some b) }
 {
     match op {
         Op::Or | Op::And => from_both(Ty::Bool, Ty::Bool, a, b),
@@ -48,21 +66,17 @@ pub fn operator_type(op: Op, a: Ty, b: Ty) -> Option<Ty>
 
 /// The type of `not` over a side of this type, where it takes it.
 pub fn negation_type(a: Ty) -> Option<Ty>
-    ensures { result ≡ negation_type a }
+    ensures { result ≡ negation_type (Some a) }
 {
-    if is_same_type(a, Ty::Bool) {
-        Some(Ty::Bool)
-    } else {
-        None
-    }
+    allowed(is_same_type(Ty::Bool, a), Ty::Bool)
 }
 
 /// The type of `if` over a condition and sides of these types, where it takes them.
 pub fn choice_type(condition: Ty, a: Ty, b: Ty) -> Option<Ty>
-    ensures { result ≡ choice_type condition a b }
+    ensures { result ≡ choice_type (Some condition) (Some a) (Some b) }
 {
-    if is_same_type(condition, Ty::Bool) && is_same_type(a, b) {
-        Some(a)
+    if is_same_type(Ty::Bool, condition) {
+        allowed(is_same_type(a, b), a)
     } else {
         None
     }

@@ -173,6 +173,12 @@ fn loads_texts_of_at_most_65_535_bytes(rt: HostRuntime) -> Result<(), Fail> {
 }
 
 #[test]
+fn a_row_takes_24_bytes_and_each_value_32(rt: HostRuntime) {
+    assert_eq!(rt; size_of::<Row>(), 24);
+    assert_eq!(rt; size_of::<Value>(), 32);
+}
+
+#[test]
 fn tells_why_in_words(rt: HostRuntime) -> Result<(), Fail> {
     for (why, words) in [
         (

@@ -1,6 +1,6 @@
 //! Replies to lines of parameters.
 
-use crate::world::{BY_CUSTOMER, answer};
+use crate::world::{BY_CUSTOMER, World, answer, run};
 use castor_cli::Status;
 use std::test::Fail;
 
@@ -45,5 +45,24 @@ fn answers_a_last_line_without_its_end(rt: HostRuntime) -> Result<(), Fail> {
         ran.output.as_slice(),
         b"rows 0\nid,cust,total\nrows 1\nid,cust,total\n2,bob,20\n".as_slice()
     );
+    Ok(())
+}
+
+#[test]
+fn reads_a_table_after_a_byte_order_mark(rt: HostRuntime) -> Result<(), Fail> {
+    let world = World {
+        query: BY_CUSTOMER,
+        script: "finish;",
+        table: "\u{feff}id,cust,total\r\n1,\"Café, 7\",30\r\n2,Café,+003\r\n",
+        input: "\"Café, 7\"\nCafé\n",
+        shelf_fails: &[],
+        input_fails: &[],
+        output_fails: &[],
+        error_fails: &[],
+    };
+    let ran = run(rt.alloc(), &["answer", "q1.query", "q1.script"], &world)?;
+    assert_eq!(rt; ran.status, Status::Ok);
+    let due = "rows 1\nid,cust,total\n1,\"Café, 7\",30\nrows 1\nid,cust,total\n2,Café,3\n";
+    assert_eq!(rt; ran.output.as_slice(), due.as_bytes());
     Ok(())
 }

@@ -1,13 +1,17 @@
 -- The tokens of a text, step by step.
-use Rattle.std.proofs.Common.{◌≡◌, ℕ, zero, suc, ◌+◌, ◌-◌, ◌<◌, ◌≤◌, List, [], ◌∷◌, ◌++◌, length, drop, Option, Some, None, refl, sym, ap, ◌∙◌, subst, append_assoc, append-nil, add-zero, arith}
+use Rattle.std.proofs.Common.{◌≡◌, ℕ, zero, suc, ◌+◌, ◌-◌, ◌<◌, ◌≤◌, List, [], ◌∷◌, ◌++◌, length, get_or, drop, Option, Some, None, refl, sym, ap, ◌∙◌, subst, append_assoc, append-nil, add-zero, arith, length-drop, take, Bool, true, false, ◌&&◌, cond}
 use Rattle.std.specs.Option.{option_map}
-use Rattle.std.proofs.lemmas.List.{drop_all}
+use Rattle.std.specs.Prelude.{is_none, map}
+use Rattle.std.specs.List.{list_all}
+use Rattle.castor_parse.specs.declared.cut.Class.{Class}
+use Rattle.castor_parse.specs.declared.cut.Class.TheVariants as class
+use Rattle.std.proofs.lemmas.List.{drop_all, get_or-drop}
 use Rattle.castor_parse.specs.declared.token.Token.{Token}
 use Rattle.castor_parse.specs.declared.token.Kind.{Kind}
-use Rattle.castor_parse.specs.declared.cut.Piece.{Piece}
+use Rattle.castor_parse.specs.declared.token.Kind.TheVariants as kind
 use Rattle.castor_parse.specs.declared.cut.Piece.TheVariants as piece
-use Rattle.castor_parse.specs.Cut.{AreInOrder}
-use Rattle.castor_parse.specs.Tokens.{Bytes, tokens_of, tokens_from, piece_of, with_piece, token_at}
+use Rattle.castor_parse.specs.Cut.{StandsAt, AreInOrder, AreSpansInOrder}
+use Rattle.castor_parse.specs.Tokens.{Bytes, is_in, run, begins_word, keyword_of, is_name, tokens_of, tokens_from, piece_of, with_piece, token_at}
 
 -- these tokens, and those that come after them
 abbrev pub after : List Token → Option (List Token) → Option (List Token)
@@ -100,3 +104,52 @@ in_order_later (t ∷ ts) start at more h le = (h.0, h.1, in_order_later ts t.sp
 pub in_order_push : (ts : List Token) (start at len : ℕ) (k : Kind) → AreInOrder start at ts → 1 ≤ len → AreInOrder start (at + len) (ts ++ token_at at k len ∷ [])
 in_order_push [] start at len k h some = (h, omega arith, omega arith)
 in_order_push (t ∷ ts) start at len k h some = (h.0, h.1, in_order_push ts t.span.to at len k h.2 some)
+
+-- a byte of what is left, and the length of that
+byte_later : (z : Bytes) (at i : ℕ) → get_or (drop at z) i 0 ≡ get_or z (at + i) 0
+byte_later z at i = get_or-drop at z i 0
+
+last_later : (z : Bytes) (at len : ℕ) → 1 ≤ len → get_or (drop at z) (len - 1) 0 ≡ get_or z (at + len - 1) 0
+last_later z at len some = let e : at + (len - 1) ≡ at + len - 1 = omega arith in byte_later z at (len - 1) ∙ ap (λ i. get_or z i 0) e
+
+first_later : (z : Bytes) (at : ℕ) → get_or (drop at z) 0 0 ≡ get_or z at 0
+first_later z at = byte_later z at 0 ∙ ap (λ i. get_or z i 0) (add-zero at)
+
+name_later : (z : Bytes) (at len : ℕ) → is_name (take (len - 0) (drop at z)) ≡ true → is_name (take (at + len - at) (drop at z)) ≡ true
+name_later z at len h = let e : len - 0 ≡ at + len - at = omega arith in subst (λ n. is_name (take n (drop at z)) ≡ true) e h
+
+-- a token at the front of what is left stands in the text
+pub stands_later : (z : Bytes) (at len : ℕ) (k : Kind) → StandsAt (drop at z) k 0 len → at ≤ length z → StandsAt z k at (at + len)
+stands_later z at len kind.Name h le = (omega (arith, h.0), omega (arith, length-drop at z, h.0, h.1), rw (sym (first_later z at)) h.2, rw (sym (last_later z at len h.0)) h.3, name_later z at len h.4)
+stands_later z at len kind.Int h le = (omega (arith, h.0), omega (arith, length-drop at z, h.0, h.1))
+stands_later z at len kind.Text h le = (omega (arith, h.0), omega (arith, length-drop at z, h.0, h.1), sym (first_later z at) ∙ h.2, sym (last_later z at len (omega (arith, h.0))) ∙ h.3)
+stands_later z at len (kind.Keyword k) h le = (omega (arith, h.0), omega (arith, length-drop at z, h.0, h.1))
+stands_later z at len (kind.Symbol s) h le = (omega (arith, h.0), omega (arith, length-drop at z, h.0, h.1))
+
+-- each byte of a run is of its class
+run_by : (c : Class) (b : ℕ) (z : Bytes) (t : Bool) → is_in c b ≡ t → list_all (is_in c) (take (run c z) z) ≡ true → (n : ℕ) → n ≡ cond t (1 + run c z) 0 → list_all (is_in c) (take n (b ∷ z)) ≡ true
+run_by c b z false is h n e = rw e refl
+run_by c b z true is h n e =
+    let one_more : n ≡ suc (run c z) = omega (arith, e) in
+    rw one_more (λ i. is i && h i)
+
+run_all : (c : Class) (z : Bytes) → list_all (is_in c) (take (run c z) z) ≡ true
+run_all c [] = refl
+run_all c (b ∷ z) = run_by c b z (is_in c b) refl (run_all c z) (run c (b ∷ z)) refl
+
+first_taken : (z : Bytes) (n : ℕ) → 0 < n → get_or (take n z) 0 0 ≡ get_or z 0 0
+first_taken z zero some = absurd (omega arith)
+first_taken [] (suc n) some = refl
+first_taken (b ∷ z) (suc n) some = refl
+
+-- a word that is no reserved word is a name
+pub name_is : (z : Bytes) (n : ℕ) → n ≡ run class.Word z → 0 < n → begins_word (get_or z 0 0) ≡ true → keyword_of (take n z) ≡ None → is_name (take n z) ≡ true
+name_is z n is some begins none =
+    let first : begins_word (get_or (take n z) 0 0) ≡ true = ap begins_word (first_taken z n some) ∙ begins in
+    let all : list_all (is_in class.Word) (take n z) ≡ true = ap (λ k. list_all (is_in class.Word) (take k z)) is ∙ run_all class.Word z in
+    λ i. first i && (all i && is_none (none i))
+
+-- the spans of tokens in order are in order
+pub spans_in_order : (ts : List Token) (start end : ℕ) → AreInOrder start end ts → AreSpansInOrder start end (map (λ t. t.span) ts)
+spans_in_order [] start end h = h
+spans_in_order (t ∷ ts) start end h = (h.0, h.1, spans_in_order ts t.span.to end h.2)

@@ -1,2 +1,10 @@
 pub mod Cut
+pub mod Formed
+pub mod Grammar
+pub mod Lexemes
+pub mod Limits
+pub mod Parsed
+pub mod Parser
+pub mod Place
+pub mod Sizes
 pub mod Tokens

@@ -1,7 +1,7 @@
 -- The tokens of a text. At each place the longest token or blank that begins there is cut off.
-use Rattle.std.specs.Prelude.{ℕ, zero, suc, ◌+◌, ◌-◌, ◌==◌, Bool, true, false, not, ◌&&◌, ◌||◌, if◌then◌else◌, List, [], ◌∷◌, length, take, drop, slice_index, Option, Some, None, nat_eq, find, codes}
+use Rattle.std.specs.Prelude.{ℕ, zero, suc, ◌+◌, ◌-◌, ◌==◌, Bool, true, false, not, ◌&&◌, ◌||◌, if◌then◌else◌, List, [], ◌∷◌, length, take, drop, slice_index, Option, Some, None, nat_eq, find, is_none, codes}
 use Rattle.std.specs.Char.{is_ascii_digit, is_ascii_alphabetic, is_ascii_alphanumeric}
-use Rattle.std.specs.List.{prefix_len, starts_with}
+use Rattle.std.specs.List.{list_all, prefix_len, starts_with}
 use Rattle.std.specs.Option.{option_map}
 use Rattle.std.specs.Str.{bytes_eq}
 use Rattle.castor_parse.specs.declared.token.Keyword.{Keyword}
@@ -115,6 +115,10 @@ run c z = prefix_len (is_in c) z
 -- the single quote
 abbrev pub quote : ℕ
 quote = 39
+
+-- a letter or `_`, and then letters, digits and `_`; no reserved word
+abbrev pub is_name : Bytes → Bool
+is_name z = begins_word (slice_index z 0) && (list_all (is_in class.Word) z && is_none (keyword_of z))
 
 -- what a word is: a reserved word or a name
 abbrev pub word_kind : Option Keyword → Kind

@@ -1,10 +1,10 @@
 //! Cuts a text into tokens.
 
-ghost use Rattle.std.specs.Prelude.{◌≡◌, ◌<◌, ◌≤◌, ◌+◌, ◌^◌, length, take, drop, slice_index, IfOk, IfErr, IfSome, Some, true, false, find, nat_eq};
+ghost use Rattle.std.specs.Prelude.{◌≡◌, ◌<◌, ◌≤◌, ◌+◌, ◌-◌, ◌^◌, All, length, take, drop, slice_index, IfOk, IfErr, IfSome, Some, true, false, find, nat_eq};
 ghost use Rattle.std.specs.List.{starts_with};
 ghost use Rattle.std.specs.Str.{bytes_eq};
 ghost use Rattle.castor_parse.specs.Tokens as spec;
-ghost use Rattle.castor_parse.specs.Cut.{IsWithin, AreInOrder, IsCutError};
+ghost use Rattle.castor_parse.specs.Cut.{IsWithin, StandsInFront, Stands, AreInOrder, IsCutError};
 
 use crate::token::{Keyword, Kind, Span, Symbol, Token};
 use std::alloc::{AllocError, AllocFailed, Global};
@@ -74,6 +74,7 @@ fn run(class: Class, z: &[u8]) -> usize
     ensures value { result ≡ spec.run class z.now }
     ensures within { result ≤ length z.now }
     ensures some { 0 < length z.now → spec.is_in class (slice_index z.now 0) ≡ true → 0 < result }
+    ensures last { 0 < result → spec.is_in class (slice_index z.now (result - 1)) ≡ true }
 {
     let mut end = 0;
     while end < z.len() && is_in(class, z[end]) {
@@ -130,7 +131,8 @@ fn symbol(z: &[u8]) -> Option<Symbol>
 fn literal_end(mut z: &[u8]) -> Option<usize>
     requires { length z.now < 2 ^ 63 }
     ensures value { result ≡ spec.literal_end false 1 z.entry.now }
-    ensures within { IfSome result (λ end. (1 ≤ end) × (end ≤ length z.entry.now + 1)) }
+    ensures within { IfSome result (λ end. (2 ≤ end) × (end ≤ length z.entry.now + 1)) }
+    ensures last { IfSome result (λ end. slice_index z.entry.now (end - 2) ≡ spec.quote) }
 {
     let mut is_second = false;
     let mut at = 1;
@@ -147,9 +149,11 @@ fn literal_end(mut z: &[u8]) -> Option<usize>
 
 fn word(z: &[u8]) -> Piece
     requires some { 0 < length z.now }
-    requires begins { spec.is_in Class.Word (slice_index z.now 0) ≡ true }
+    requires begins { spec.begins_word (slice_index z.now 0) ≡ true }
+    requires goes_on { spec.is_in Class.Word (slice_index z.now 0) ≡ true }
     ensures value { result ≡ Piece.Token (spec.word_kind (spec.keyword_of (take (spec.run Class.Word z.now) z.now))) (spec.run Class.Word z.now) }
     ensures within { IsWithin z.now result }
+    ensures stands { StandsInFront z.now result }
 {
     let end = run(Class::Word, z);
     match keyword(&z[..end]) {
@@ -159,9 +163,11 @@ fn word(z: &[u8]) -> Piece
 }
 
 fn literal(z: &[u8]) -> Piece
-    requires { 0 < length z.now }
+    requires some { 0 < length z.now }
+    requires begins { slice_index z.now 0 ≡ spec.quote }
     ensures value { result ≡ spec.literal_piece (spec.literal_end false 1 (drop 1 z.now)) }
     ensures within { IsWithin z.now result }
+    ensures stands { StandsInFront z.now result }
 {
     match literal_end(&z[1..]) {
         None => Piece::Unclosed,
@@ -172,6 +178,7 @@ fn literal(z: &[u8]) -> Piece
 fn mark(z: &[u8]) -> Piece
     ensures value { result ≡ spec.symbol_piece (spec.symbol_of z.now) }
     ensures within { IsWithin z.now result }
+    ensures stands { StandsInFront z.now result }
 {
     match symbol(z) {
         None => Piece::Stray,
@@ -185,6 +192,7 @@ fn next_piece(z: &[u8]) -> Piece
     requires { 0 < length z.now }
     ensures value { result ≡ spec.piece_of z.now }
     ensures within { IsWithin z.now result }
+    ensures stands { StandsInFront z.now result }
 {
     let b = byte(z, 0);
     if is_in(Class::Space, b) {
@@ -209,6 +217,7 @@ fn next_piece(z: &[u8]) -> Piece
 pub fn tokens(alloc: Global, text: &[u8]) -> Result<Vec<Token>, CutError>
     ensures ok { IfOk result (λ v. spec.tokens_of text.now ≡ Some v.items) }
     ensures order { IfOk result (λ v. AreInOrder 0 (length text.now) v.items) }
+    ensures stand { IfOk result (λ v. All (Stands text.now) v.items) }
     ensures err { IfErr result (IsCutError text.now) }
 {
     let mut tokens = Vec::new(alloc);

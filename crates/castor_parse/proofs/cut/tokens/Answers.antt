@@ -1,12 +1,14 @@
-use Rattle.std.proofs.Common.{is_ok, ◌+◌, ◌≤◌, sym, ap, arith, length, length-drop, drop}
+use Rattle.std.proofs.Common.{is_ok, ◌+◌, sym, ap, arith, length-drop}
 use Rattle.std.proofs.ResultArms.{chosen}
 use Rattle.std.proofs.lemmas.List.{take_rest}
-use Rattle.castor_parse.proofs.TokenLaws.{after-nil, cut_push, cut_pass, in_order_later, in_order_push}
-use Rattle.castor_parse.specs.Tokens.{tokens_of}
+use Rattle.std.proofs.lemmas.List.Elements.{All-nil, All-push}
+use Rattle.castor_parse.proofs.TokenLaws.{after-nil, cut_push, cut_pass, in_order_later, in_order_push, stands_later}
+use Rattle.castor_parse.specs.Tokens.{tokens_of, token_at}
+use Rattle.castor_parse.specs.Cut.{Stands}
 use Rattle.castor_parse.proofs.cut.tokens.Goals as goal
 
 pub cut-init : goal.cut-init
-cut-init c = let text = c.args.text.now in rw (c.new-tokens.ensures.items) (record { all = sym (after-nil (tokens_of text)); order = omega arith; within = omega arith })
+cut-init c = let text = c.args.text.now in rw (c.new-tokens.ensures.items) (record { all = sym (after-nil (tokens_of text)); order = omega arith; stand = All-nil (Stands text); within = omega arith })
 
 pub cut-preserved-in-Blank : goal.cut-preserved-in-Blank
 cut-preserved-in-Blank c =
@@ -18,6 +20,7 @@ cut-preserved-in-Blank c =
     record {
       all = cut_pass text c.cut.tokens.items at len c.cut.invariant.all is within.0 within.1;
       order = in_order_later c.cut.tokens.items 0 at (at + len) c.cut.invariant.order (omega arith);
+      stand = c.cut.invariant.stand;
       within = omega (arith, length-drop at text, within.1);
     }
 
@@ -32,5 +35,6 @@ cut-preserved c =
     record {
       all = cut_push text c.cut.tokens.items c.push.new.self.items at len c.in-Token.kind c.cut.invariant.all pushed is within.0 within.1;
       order = rw pushed (in_order_push c.cut.tokens.items 0 at len c.in-Token.kind c.cut.invariant.order within.0);
+      stand = rw pushed (All-push (Stands text) c.cut.tokens.items (token_at at c.in-Token.kind len) c.cut.invariant.stand (stands_later text at len c.in-Token.kind (rw (take_rest text at) at c.in-Token.ensures.stands) c.cut.invariant.within));
       within = omega (arith, length-drop at text, within.1);
     }

@@ -1,5 +1,6 @@
 use Rattle.std.proofs.Common.{◌≡◌, ◌-◌, ◌≤◌, length, drop}
-use Rattle.castor_parse.specs.Cut.{AreInOrder}
+use Rattle.std.specs.Prelude.{All}
+use Rattle.castor_parse.specs.Cut.{Stands, AreInOrder}
 use Rattle.castor_parse.specs.Tokens.{tokens_of, tokens_from}
 use Rattle.castor_parse.proofs.TokenLaws.{after}
 use Rattle.castor_parse.proofs.cut.tokens.Given as goal
@@ -9,6 +10,7 @@ abbrev pub invariant-cut : goal.invariant-cut
 invariant-cut l = record {
   all : tokens_of l.text ≡ after l.tokens.items (tokens_from l.at 0 (drop l.at l.text));
   order : AreInOrder 0 l.at l.tokens.items;
+  stand : All (Stands l.text) l.tokens.items;
   within : l.at ≤ length l.text;
 }
 

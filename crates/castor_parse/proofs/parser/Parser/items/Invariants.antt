@@ -1,0 +1,6 @@
+use Rattle.std.proofs.Common.{◌≡◌, ◌-◌}
+use Rattle.castor_parse.specs.Parser.{expr_at, read_item, separated, separated_from}
+use Rattle.castor_parse.proofs.parser.Parser.items.Given as goal
+
+abbrev pub invariant-loop-turn : goal.invariant-loop-turn
+invariant-loop-turn l = separated (read_item (expr_at l.depth)) l.fn.self ≡ separated_from (read_item (expr_at l.depth)) (l._turn-end - l._turn) l.found l.self

@@ -47,7 +47,7 @@ context_wide : (tables : List Declared) → list_all (λ t. are_columns (table_t
 context_wide [] are = refl
 context_wide (t ∷ tables) are =
     λ i. left_true (are_columns (table_types t)) (list_all (λ t. are_columns (table_types t)) tables) are i
-      && context_wide tables (right_true (are_columns (table_types t)) (list_all (λ t. are_columns (table_types t)) tables) are) i
+    && context_wide tables (right_true (are_columns (table_types t)) (list_all (λ t. are_columns (table_types t)) tables) are) i
 
 -- what is promised of an answer
 pub record IsSound (file : File) (c : Checked) : Type 0 where
@@ -67,14 +67,20 @@ made_sound file known found are declared columns is =
       closed = λ scope. none_read scope found.query (context_in known []) (types_of found.columns) refl is.typed;
       large = record { nodes = is.nodes; depth = is.depth };
       limits = record {
-        few_tables = are.few_tables; few_params = are.few_params; tables = are.tables; table_names = are.table_names; param_names = are.param_names;
-        columns = ap (λ (n : ℕ). nat_lt 0 n && nat_le n 64) (length-map found.columns (λ (c : NamedColumn). let p : Column = record { name = c.name; ty = c.ty } in p) ∙ sym (length-map found.columns (λ (c : NamedColumn). c.ty))) ∙ is.wide };
-      names = record { tables = declared.tables; params = declared.params; columns = plain_named found.columns columns } }
+        few_tables = are.few_tables;
+        few_params = are.few_params;
+        tables = are.tables;
+        table_names = are.table_names;
+        param_names = are.param_names;
+        columns = ap (λ (n : ℕ). nat_lt 0 n && nat_le n 64) (length-map found.columns (λ (c : NamedColumn). let p : Column = record { name = c.name; ty = c.ty } in p) ∙ sym (length-map found.columns (λ (c : NamedColumn). c.ty))) ∙ is.wide;
+      };
+      names = record { tables = declared.tables; params = declared.params; columns = plain_named found.columns columns };
+    }
 
 pub checked-sound : (file : File) (c : Checked) → IsFormed file → checked file ≡ Ok c → IsSound file c
 checked-sound file c formed is =
     let f = through (declared file.decls) (λ (known : Declarations).
-          and_then (relation file.query known [] 0) (λ (found : Found). Ok (record { tables = known.tables; params = known.params; columns = plain_columns found.columns; query = found.query }))) c is in
+    and_then (relation file.query known [] 0) (λ (found : Found). Ok (record { tables = known.tables; params = known.params; columns = plain_columns found.columns; query = found.query }))) c is in
     let g = through (relation file.query f.first [] 0) (λ (found : Found). Ok (record { tables = f.first.tables; params = f.first.params; columns = plain_columns found.columns; query = found.query })) c f.rest in
     let limited = declared-limited file.decls f.first formed.decls f.is in
     let found = relation-found file.query f.first [] 0 g.first (tables_wide f.first.tables limited.tables) tt formed.query g.is in

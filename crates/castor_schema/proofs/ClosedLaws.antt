@@ -129,11 +129,14 @@ module _ (k : ℕ) where
 
   reads_none : (e : Expr) → ReadsNone e
   reads_none = expr_induction ReadsNone (record {
-      col = λ i columns context t none typed. fold-Col Bool (reads_step k) i;
-      scope = scope_reads;
-      param = λ i columns context t none typed. fold-Param Bool (reads_step k) i;
-      lit = λ v columns context t none typed. fold-Lit Bool (reads_step k) v;
-      bin = bin_reads; not = not_reads; cond = cond_reads })
+    col = λ i columns context t none typed. fold-Col Bool (reads_step k) i;
+    scope = scope_reads;
+    param = λ i columns context t none typed. fold-Param Bool (reads_step k) i;
+    lit = λ v columns context t none typed. fold-Lit Bool (reads_step k) v;
+    bin = bin_reads;
+    not = not_reads;
+    cond = cond_reads;
+  })
 
   -- of a list of expressions each has a type
   all_read_none : (es : List Expr) (columns : List Ty) (context : Context) (types : List Ty) → scope_types context.scopes k ≡ None → types_of_each es columns context ≡ Some types → list_any (reads k) es ≡ false
@@ -220,7 +223,7 @@ module _ (k : ℕ) where
   body_free : (j : ℕ) (s : Rel) (context : Context) (columns types : List Ty) → ReadsNoneFree s → scope_types context.scopes k ≡ None → types_under s (extended context j columns) ≡ Some types → passes k j (is_free k s) ≡ false
   body_free j s context columns types fs none typed =
       passed j (is_free k s) (j == k) refl (λ other. fs (extended context j columns) types
-        (scope_types-extended context j columns k ∙ ap (λ (b : Bool). if b then Some columns else scope_types context.scopes k) other ∙ none) typed)
+      (scope_types-extended context j columns k ∙ ap (λ (b : Bool). if b then Some columns else scope_types context.scopes k) other ∙ none) typed)
 
   depjoin_free : (j : ℕ) (r s : Rel) → ReadsNoneFree r → ReadsNoneFree s → ReadsNoneFree (R.DepJoin j r s)
   depjoin_free j r s fr fs context types none typed =
@@ -243,7 +246,7 @@ module _ (k : ℕ) where
   hash_free : (j : ℕ) (r s : Rel) (es : List Expr) → ReadsNoneFree r → ReadsNoneFree s → ReadsNoneFree (R.Hash j r s es)
   hash_free j r s es fr fs context types none typed =
       let from = and_then_parts (λ columns. if are_hash_keys columns (types_of_each es [] context) then types_under s (extended context j columns) else None) (types_under r context) types
-            (sym (ap (typed_in context) (F.fold-Hash RelTyping column_types_step j r s es)) ∙ typed) in
+      (sym (ap (typed_in context) (F.fold-Hash RelTyping column_types_step j r s es)) ∙ typed) in
       let holds = where_holds (are_hash_keys from.first (types_of_each es [] context)) (types_under s (extended context j from.first)) types from.rest in
       let keys = keys_typed from.first (types_of_each es [] context) holds.0 in
       F.fold-Hash Bool (free_step k) j r s es
@@ -263,7 +266,7 @@ module _ (k : ℕ) where
   ordered_free : (j : ℕ) (r s : Rel) (lo hi : Bound) → ReadsNoneFree r → ReadsNoneFree s → ReadsNoneFree (R.Ord j r s lo hi)
   ordered_free j r s lo hi fr fs context types none typed =
       let from = and_then_parts (λ columns. if is_range columns lo hi context then types_under s (extended context j columns) else None) (types_under r context) types
-            (sym (ap (typed_in context) (F.fold-Ord RelTyping column_types_step j r s lo hi)) ∙ typed) in
+      (sym (ap (typed_in context) (F.fold-Ord RelTyping column_types_step j r s lo hi)) ∙ typed) in
       let holds = where_holds (is_range from.first lo hi context) (types_under s (extended context j from.first)) types from.rest in
       F.fold-Ord Bool (free_step k) j r s lo hi
       ∙ (λ i. range_free from.first lo hi context none holds.0 i || (fr context from.first none from.is i || body_free j s context from.first types fs none holds.1 i))
@@ -283,6 +286,18 @@ module _ (k : ℕ) where
 
   pub none_read : (q : Rel) → ReadsNoneFree q
   none_read = rel_induction ReadsNoneFree (record {
-      table = λ n context types none typed. F.fold-Table Bool (free_step k) n;
-      scalar = scalar_free; cross = cross_free; concat = concat_free; select = select_free; filter = filter_free; join = join_free; depjoin = depjoin_free;
-      group = group_free; order = order_free; dedup = dedup_free; list = list_free; hash = hash_free; ordered = ordered_free })
+    table = λ n context types none typed. F.fold-Table Bool (free_step k) n;
+    scalar = scalar_free;
+    cross = cross_free;
+    concat = concat_free;
+    select = select_free;
+    filter = filter_free;
+    join = join_free;
+    depjoin = depjoin_free;
+    group = group_free;
+    order = order_free;
+    dedup = dedup_free;
+    list = list_free;
+    hash = hash_free;
+    ordered = ordered_free;
+  })

@@ -62,5 +62,5 @@ scope_types-innermost next [] name s f is = absurd cc
 scope_types-innermost next (o ∷ outer) name s f is =
     scope_types-append (entries outer) (o.number, types_of o.columns) s.number
     ∙ types_by o s (innermost outer name) (scope_types (entries outer) s.number) (bytes_eq o.name name)
-        (λ found. lesser o.number outer name s f.1 found)
-        (λ found. scope_types-innermost o.number outer name s f.1 found) is
+    (λ found. lesser o.number outer name s f.1 found)
+    (λ found. scope_types-innermost o.number outer name s f.1 found) is

@@ -103,7 +103,8 @@ table_limited known more word columns some are is =
       few_params = are.few_params;
       tables = list_all-append is_table known.tables (table ∷ []) ∙ (λ i. are.tables i && (is_one i && true));
       table_names = distinct_push table_name known.tables table are.table_names u.passes;
-      param_names = are.param_names })
+      param_names = are.param_names;
+    })
 
 param_limited : (known more : Declarations) (word : Word) (type : Ty) → AreLimited known → with_param known word type ≡ Ok more → AreLimited more
 unfolding with_param
@@ -117,13 +118,14 @@ param_limited known more word type are is =
       few_params = (let a = length-append known.params (param ∷ []) in omega arith);
       tables = are.tables;
       table_names = are.table_names;
-      param_names = distinct_push column_name known.params param are.param_names u.passes })
+      param_names = distinct_push column_name known.params param are.param_names u.passes;
+    })
 
 one_limited : (known more : Declarations) (decl : Decl) → is_decl_formed decl ≡ true → AreLimited known → with_declaration known decl ≡ Ok more → AreLimited more
 unfolding with_declaration
 one_limited known more (Table word columns) formed are is =
     table_limited known more word columns
-      (left_true (has_some columns) (list_all is_column_formed columns) (right_true (is_word word) (has_some columns && list_all is_column_formed columns) formed)) are is
+    (left_true (has_some columns) (list_all is_column_formed columns) (right_true (is_word word) (has_some columns && list_all is_column_formed columns) formed)) are is
 one_limited known more (Param word type) formed are is = param_limited known more word type are is
 
 all_limited : (decls : List Decl) (known all : Declarations) → list_all is_decl_formed decls ≡ true → AreLimited known → in_order with_declaration known decls ≡ Ok all → AreLimited all
@@ -131,7 +133,7 @@ all_limited [] known all formed are is = subst AreLimited (ok_same _ _ is) are
 all_limited (decl ∷ decls) known all formed are is =
     let f = through (with_declaration known decl) (λ more. in_order with_declaration more decls) all is in
     all_limited decls f.first all (right_true (is_decl_formed decl) (list_all is_decl_formed decls) formed)
-      (one_limited known f.first decl (left_true (is_decl_formed decl) (list_all is_decl_formed decls) formed) are f.is) f.rest
+    (one_limited known f.first decl (left_true (is_decl_formed decl) (list_all is_decl_formed decls) formed) are f.is) f.rest
 
 -- the declarations of a formed file, where none is refused
 pub declared-limited : (decls : List Decl) (known : Declarations) → list_all is_decl_formed decls ≡ true → declared decls ≡ Ok known → AreLimited known

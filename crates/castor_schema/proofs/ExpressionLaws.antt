@@ -55,7 +55,8 @@ module _ (context : Context) (columns : List NamedColumn) where
       subst (IsTyped context columns 1 1) e (record {
         typed = ap (under columns context) (algebra.fold-Col ExprTyping expr_type_step number) ∙ slice_get-map ty_of columns number ∙ ap (option_map ty_of) at;
         nodes = algebra.fold-Col ℕ expr_nodes_step number;
-        depth = algebra.fold-Col ℕ expr_depth_step number })
+        depth = algebra.fold-Col ℕ expr_depth_step number;
+      })
 
   pub column_read-typed : (number : ℕ) (t : Typed) → column_read columns number ≡ Ok t → IsTyped context columns 1 1 t
   column_read-typed number t is = column_by number t (slice_get columns number) refl is
@@ -72,7 +73,8 @@ module _ (context : Context) (columns : List NamedColumn) where
             ∙ ap (option_and_then (λ types. slice_get types number)) has
             ∙ slice_get-map ty_of scope.columns number ∙ ap (option_map ty_of) at;
         nodes = algebra.fold-Scope ℕ expr_nodes_step scope.number number;
-        depth = algebra.fold-Scope ℕ expr_depth_step scope.number number })
+        depth = algebra.fold-Scope ℕ expr_depth_step scope.number number;
+      })
 
   scope_read-typed : (scope : Scope) (number : ℕ) (t : Typed) → scope_types context.scopes scope.number ≡ Some (types_of scope.columns) → scope_read scope number ≡ Ok t → IsTyped context columns 1 1 t
   scope_read-typed scope number t has is = scope_by scope number t (slice_get scope.columns number) refl has is
@@ -87,32 +89,32 @@ module _ (context : Context) (columns : List NamedColumn) where
   unfolding operation
   operation-typed op a b t n m d g left right is =
       with_type-typed (core.Bin op a.expr b.expr) (operator_type op (Some a.ty) (Some b.ty)) t (1 + (n + m)) (1 + max d g)
-        (ap (under columns context) (algebra.fold-Bin ExprTyping expr_type_step op a.expr b.expr) ∙ (λ i. operator_type op (left.typed i) (right.typed i)))
-        (algebra.fold-Bin ℕ expr_nodes_step op a.expr b.expr ∙ (λ i. 1 + (left.nodes i + right.nodes i)))
-        (algebra.fold-Bin ℕ expr_depth_step op a.expr b.expr ∙ (λ i. 1 + max (left.depth i) (right.depth i))) is
+      (ap (under columns context) (algebra.fold-Bin ExprTyping expr_type_step op a.expr b.expr) ∙ (λ i. operator_type op (left.typed i) (right.typed i)))
+      (algebra.fold-Bin ℕ expr_nodes_step op a.expr b.expr ∙ (λ i. 1 + (left.nodes i + right.nodes i)))
+      (algebra.fold-Bin ℕ expr_depth_step op a.expr b.expr ∙ (λ i. 1 + max (left.depth i) (right.depth i))) is
 
   pub negation-typed : (a t : Typed) (n d : ℕ) → IsTyped context columns n d a → negation a ≡ Ok t → IsTyped context columns (1 + n) (1 + d) t
   unfolding negation
   negation-typed a t n d side is =
       with_type-typed (core.Not a.expr) (negation_type (Some a.ty)) t (1 + n) (1 + d)
-        (ap (under columns context) (algebra.fold-Not ExprTyping expr_type_step a.expr) ∙ ap negation_type side.typed)
-        (algebra.fold-Not ℕ expr_nodes_step a.expr ∙ ap (λ (x : ℕ). 1 + x) side.nodes)
-        (algebra.fold-Not ℕ expr_depth_step a.expr ∙ ap (λ (x : ℕ). 1 + x) side.depth) is
+      (ap (under columns context) (algebra.fold-Not ExprTyping expr_type_step a.expr) ∙ ap negation_type side.typed)
+      (algebra.fold-Not ℕ expr_nodes_step a.expr ∙ ap (λ (x : ℕ). 1 + x) side.nodes)
+      (algebra.fold-Not ℕ expr_depth_step a.expr ∙ ap (λ (x : ℕ). 1 + x) side.depth) is
 
   pub choice-typed : (c a b t : Typed) (l n m f d g : ℕ) → IsTyped context columns l f c → IsTyped context columns n d a → IsTyped context columns m g b → choice c a b ≡ Ok t → IsTyped context columns (1 + (l + (n + m))) (1 + max f (max d g)) t
   unfolding choice
   choice-typed c a b t l n m f d g test left right is =
       with_type-typed (core.If c.expr a.expr b.expr) (choice_type (Some c.ty) (Some a.ty) (Some b.ty)) t (1 + (l + (n + m))) (1 + max f (max d g))
-        (ap (under columns context) (algebra.fold-If ExprTyping expr_type_step c.expr a.expr b.expr) ∙ (λ i. choice_type (test.typed i) (left.typed i) (right.typed i)))
-        (algebra.fold-If ℕ expr_nodes_step c.expr a.expr b.expr ∙ (λ i. 1 + (test.nodes i + (left.nodes i + right.nodes i))))
-        (algebra.fold-If ℕ expr_depth_step c.expr a.expr b.expr ∙ (λ i. 1 + max (test.depth i) (max (left.depth i) (right.depth i)))) is
+      (ap (under columns context) (algebra.fold-If ExprTyping expr_type_step c.expr a.expr b.expr) ∙ (λ i. choice_type (test.typed i) (left.typed i) (right.typed i)))
+      (algebra.fold-If ℕ expr_nodes_step c.expr a.expr b.expr ∙ (λ i. 1 + (test.nodes i + (left.nodes i + right.nodes i))))
+      (algebra.fold-If ℕ expr_depth_step c.expr a.expr b.expr ∙ (λ i. 1 + max (test.depth i) (max (left.depth i) (right.depth i)))) is
 
   -- the expression with the type that a literal has
   literal_typed : (v : Value) (t : Typed) → with_type (core.Lit v) (literal_type v) ≡ Ok t → IsTyped context columns 1 1 t
   literal_typed v t is =
       with_type-typed (core.Lit v) (literal_type v) t 1 1
-        (ap (under columns context) (algebra.fold-Lit ExprTyping expr_type_step v))
-        (algebra.fold-Lit ℕ expr_nodes_step v) (algebra.fold-Lit ℕ expr_depth_step v) is
+      (ap (under columns context) (algebra.fold-Lit ExprTyping expr_type_step v))
+      (algebra.fold-Lit ℕ expr_nodes_step v) (algebra.fold-Lit ℕ expr_depth_step v) is
 
 -- the sizes may be written otherwise
 pub sized : (context : Context) (columns : List NamedColumn) (n m d g : ℕ) (t : Typed) → IsTyped context columns n d t → n ≡ m → d ≡ g → IsTyped context columns m g t
@@ -156,7 +158,8 @@ module _ (known : Declarations) (scopes : List Scope) (next : ℕ) (force : InFo
       subst (IsTyped here columns 1 1) e (record {
         typed = ap (under columns here) (algebra.fold-Param ExprTyping expr_type_step number) ∙ slice_get-map param_ty known.params number ∙ ap (option_map param_ty) at;
         nodes = algebra.fold-Param ℕ expr_nodes_step number;
-        depth = algebra.fold-Param ℕ expr_depth_step number })
+        depth = algebra.fold-Param ℕ expr_depth_step number;
+      })
 
   param_by : (o : Option ℕ) (t : Typed)
       → ok_or (option_and_then (λ number. option_map (λ (p : Column). let one : Typed = record { expr = core.Param number; ty = p.ty } in one) (slice_get known.params number)) o) UnknownParam ≡ Ok t
@@ -176,56 +179,56 @@ Means e = (known : Declarations) (scopes : List Scope) (next : ℕ) (columns : L
 col_means : (c : PCol) → Means (E.Col c)
 col_means c known scopes next columns t force is =
     sized (context_in known scopes) columns 1 (names.expr_nodes (E.Col c)) 1 (names.expr_depth (E.Col c)) t
-      (meant-typed known scopes next force columns c t (sym (ap (λ (m : Reading). m known scopes columns) (fold-Col Reading expression_step c)) ∙ is))
-      (sym (fold-Col ℕ names.expr_nodes_step c)) (sym (fold-Col ℕ names.expr_depth_step c))
+    (meant-typed known scopes next force columns c t (sym (ap (λ (m : Reading). m known scopes columns) (fold-Col Reading expression_step c)) ∙ is))
+    (sym (fold-Col ℕ names.expr_nodes_step c)) (sym (fold-Col ℕ names.expr_depth_step c))
 
 scope_at_means : (w : Word) (i : ℕ) → Means (E.ScopeAt w i)
 scope_at_means w i known scopes next columns t force is =
     sized (context_in known scopes) columns 1 (names.expr_nodes (E.ScopeAt w i)) 1 (names.expr_depth (E.ScopeAt w i)) t
-      (scope_number-typed known scopes next force columns (innermost scopes w.text) w.text i t refl (sym (ap (λ (m : Reading). m known scopes columns) (fold-ScopeAt Reading expression_step w i)) ∙ is))
-      (sym (fold-ScopeAt ℕ names.expr_nodes_step w i)) (sym (fold-ScopeAt ℕ names.expr_depth_step w i))
+    (scope_number-typed known scopes next force columns (innermost scopes w.text) w.text i t refl (sym (ap (λ (m : Reading). m known scopes columns) (fold-ScopeAt Reading expression_step w i)) ∙ is))
+    (sym (fold-ScopeAt ℕ names.expr_nodes_step w i)) (sym (fold-ScopeAt ℕ names.expr_depth_step w i))
 
 param_means : (w : Word) → Means (E.Param w)
 param_means w known scopes next columns t force is =
     sized (context_in known scopes) columns 1 (names.expr_nodes (E.Param w)) 1 (names.expr_depth (E.Param w)) t
-      (parameter-typed known scopes next force columns w.text t (sym (ap (λ (m : Reading). m known scopes columns) (fold-Param Reading expression_step w)) ∙ is))
-      (sym (fold-Param ℕ names.expr_nodes_step w)) (sym (fold-Param ℕ names.expr_depth_step w))
+    (parameter-typed known scopes next force columns w.text t (sym (ap (λ (m : Reading). m known scopes columns) (fold-Param Reading expression_step w)) ∙ is))
+    (sym (fold-Param ℕ names.expr_nodes_step w)) (sym (fold-Param ℕ names.expr_depth_step w))
 
 lit_means : (type : Ty) (v : Value) → Means (E.Lit type v)
 lit_means type v known scopes next columns t force is =
     sized (context_in known scopes) columns 1 (names.expr_nodes (E.Lit type v)) 1 (names.expr_depth (E.Lit type v)) t
-      (literal_typed (context_in known scopes) columns v t (sym (ap (λ (m : Reading). m known scopes columns) (fold-Lit Reading expression_step type v)) ∙ is))
-      (sym (fold-Lit ℕ names.expr_nodes_step type v)) (sym (fold-Lit ℕ names.expr_depth_step type v))
+    (literal_typed (context_in known scopes) columns v t (sym (ap (λ (m : Reading). m known scopes columns) (fold-Lit Reading expression_step type v)) ∙ is))
+    (sym (fold-Lit ℕ names.expr_nodes_step type v)) (sym (fold-Lit ℕ names.expr_depth_step type v))
 
 bin_means : (op : Op) (a b : PExpr) → Means a → Means b → Means (E.Bin op a b)
 bin_means op a b ma mb known scopes next columns t force is =
     let f = through (expression a known scopes columns) (λ left. and_then (expression b known scopes columns) (λ right. operation op left right)) t
-          (sym (ap (λ (m : Reading). m known scopes columns) (fold-Bin Reading expression_step op a b)) ∙ is) in
+    (sym (ap (λ (m : Reading). m known scopes columns) (fold-Bin Reading expression_step op a b)) ∙ is) in
     let g = through (expression b known scopes columns) (λ right. operation op f.first right) t f.rest in
     sized (context_in known scopes) columns (1 + (names.expr_nodes a + names.expr_nodes b)) (names.expr_nodes (E.Bin op a b)) (1 + max (names.expr_depth a) (names.expr_depth b)) (names.expr_depth (E.Bin op a b)) t
-      (operation-typed (context_in known scopes) columns op f.first g.first t (names.expr_nodes a) (names.expr_nodes b) (names.expr_depth a) (names.expr_depth b)
-        (ma known scopes next columns f.first force f.is) (mb known scopes next columns g.first force g.is) g.rest)
-      (sym (fold-Bin ℕ names.expr_nodes_step op a b)) (sym (fold-Bin ℕ names.expr_depth_step op a b))
+    (operation-typed (context_in known scopes) columns op f.first g.first t (names.expr_nodes a) (names.expr_nodes b) (names.expr_depth a) (names.expr_depth b)
+    (ma known scopes next columns f.first force f.is) (mb known scopes next columns g.first force g.is) g.rest)
+    (sym (fold-Bin ℕ names.expr_nodes_step op a b)) (sym (fold-Bin ℕ names.expr_depth_step op a b))
 
 not_means : (a : PExpr) → Means a → Means (E.Not a)
 not_means a ma known scopes next columns t force is =
     let f = through (expression a known scopes columns) (λ side. negation side) t
-          (sym (ap (λ (m : Reading). m known scopes columns) (fold-Not Reading expression_step a)) ∙ is) in
+    (sym (ap (λ (m : Reading). m known scopes columns) (fold-Not Reading expression_step a)) ∙ is) in
     sized (context_in known scopes) columns (1 + names.expr_nodes a) (names.expr_nodes (E.Not a)) (1 + names.expr_depth a) (names.expr_depth (E.Not a)) t
-      (negation-typed (context_in known scopes) columns f.first t (names.expr_nodes a) (names.expr_depth a) (ma known scopes next columns f.first force f.is) f.rest)
-      (sym (fold-Not ℕ names.expr_nodes_step a)) (sym (fold-Not ℕ names.expr_depth_step a))
+    (negation-typed (context_in known scopes) columns f.first t (names.expr_nodes a) (names.expr_depth a) (ma known scopes next columns f.first force f.is) f.rest)
+    (sym (fold-Not ℕ names.expr_nodes_step a)) (sym (fold-Not ℕ names.expr_depth_step a))
 
 cond_means : (c a b : PExpr) → Means c → Means a → Means b → Means (E.If c a b)
 cond_means c a b mc ma mb known scopes next columns t force is =
     let f = through (expression c known scopes columns) (λ test. and_then (expression a known scopes columns) (λ left. and_then (expression b known scopes columns) (λ right. choice test left right))) t
-          (sym (ap (λ (m : Reading). m known scopes columns) (fold-If Reading expression_step c a b)) ∙ is) in
+    (sym (ap (λ (m : Reading). m known scopes columns) (fold-If Reading expression_step c a b)) ∙ is) in
     let g = through (expression a known scopes columns) (λ left. and_then (expression b known scopes columns) (λ right. choice f.first left right)) t f.rest in
     let h = through (expression b known scopes columns) (λ right. choice f.first g.first right) t g.rest in
     sized (context_in known scopes) columns (1 + (names.expr_nodes c + (names.expr_nodes a + names.expr_nodes b))) (names.expr_nodes (E.If c a b))
-        (1 + max (names.expr_depth c) (max (names.expr_depth a) (names.expr_depth b))) (names.expr_depth (E.If c a b)) t
-      (choice-typed (context_in known scopes) columns f.first g.first h.first t (names.expr_nodes c) (names.expr_nodes a) (names.expr_nodes b) (names.expr_depth c) (names.expr_depth a) (names.expr_depth b)
-        (mc known scopes next columns f.first force f.is) (ma known scopes next columns g.first force g.is) (mb known scopes next columns h.first force h.is) h.rest)
-      (sym (fold-If ℕ names.expr_nodes_step c a b)) (sym (fold-If ℕ names.expr_depth_step c a b))
+    (1 + max (names.expr_depth c) (max (names.expr_depth a) (names.expr_depth b))) (names.expr_depth (E.If c a b)) t
+    (choice-typed (context_in known scopes) columns f.first g.first h.first t (names.expr_nodes c) (names.expr_nodes a) (names.expr_nodes b) (names.expr_depth c) (names.expr_depth a) (names.expr_depth b)
+    (mc known scopes next columns f.first force f.is) (ma known scopes next columns g.first force g.is) (mb known scopes next columns h.first force h.is) h.rest)
+    (sym (fold-If ℕ names.expr_nodes_step c a b)) (sym (fold-If ℕ names.expr_depth_step c a b))
 
 -- an expression that isn't refused has the type that was found
 pub expression-typed : (e : PExpr) → Means e

@@ -81,7 +81,7 @@ wide_from columns some few =
 pub wide_some : (columns : List NamedColumn) → are_columns (types_of columns) ≡ true → 0 < length columns
 wide_some columns wide =
     subst (λ (k : ℕ). 0 < k) (length-map columns ty_of)
-      (ltb-true 0 (length (types_of columns)) (left_true (nat_lt 0 (length (types_of columns))) (nat_le (length (types_of columns)) 64) wide))
+    (ltb-true 0 (length (types_of columns)) (left_true (nat_lt 0 (length (types_of columns))) (nat_le (length (types_of columns)) 64) wide))
 
 -- one of a list of which all pass a test
 one_passes : {X : Type 0} (p : X → Bool) (xs : List X) (i : ℕ) (x : X) → list_all p xs ≡ true → slice_get xs i ≡ Some x → p x ≡ true
@@ -155,9 +155,9 @@ module _ (known : Declarations) (scopes : List Scope) (next : ℕ) (force : InFo
   table_at number (Some t) found are at is =
       let same = of_table t.name t.columns in
       made here (core.Table number) (columns_of_table t) next next 1 1 found
-        (ap (typed_in here) (algebra.fold-Table RelTyping column_types_step number) ∙ slice_get-map table_types known.tables number ∙ ap (option_map table_types) at ∙ ap Some (sym same))
-        (ap are_columns same ∙ one_passes (λ t. are_columns (table_types t)) known.tables number t are at)
-        (algebra.fold-Table ℕ nodes_step number) (algebra.fold-Table ℕ depth_step number) (omega arith) is
+      (ap (typed_in here) (algebra.fold-Table RelTyping column_types_step number) ∙ slice_get-map table_types known.tables number ∙ ap (option_map table_types) at ∙ ap Some (sym same))
+      (ap are_columns same ∙ one_passes (λ t. are_columns (table_types t)) known.tables number t are at)
+      (algebra.fold-Table ℕ nodes_step number) (algebra.fold-Table ℕ depth_step number) (omega arith) is
 
   table_by : (o : Option ℕ) (found : Found) → AreKnown known
       → ok_or (option_and_then (λ number. option_map (λ (t : Declared). let f : Found = record { query = core.Table number; columns = columns_of_table t; next = next } in f) (slice_get known.tables number)) o) UnknownTable ≡ Ok found → IsFound here next 1 1 found
@@ -175,10 +175,10 @@ module _ (known : Declarations) (scopes : List Scope) (next : ℕ) (force : InFo
       let f = through (item_output known scopes [] 0 item) (λ output. scalar_of next output) found is in
       let t = output-typed known scopes next force [] 0 item f.first f.is in
       made here (core.Scalar f.first.expr) (f.first.column ∷ []) next next (1 + names.item_nodes item) (1 + names.item_depth item) found
-        (ap (typed_in here) (algebra.fold-Scalar RelTyping column_types_step f.first.expr) ∙ ap (option_map (λ (t : Ty). t ∷ [])) t.typed)
-        refl
-        (algebra.fold-Scalar ℕ nodes_step f.first.expr ∙ ap (λ (k : ℕ). 1 + k) t.nodes)
-        (algebra.fold-Scalar ℕ depth_step f.first.expr ∙ ap (λ (k : ℕ). 1 + k) t.depth) (omega arith) f.rest
+      (ap (typed_in here) (algebra.fold-Scalar RelTyping column_types_step f.first.expr) ∙ ap (option_map (λ (t : Ty). t ∷ [])) t.typed)
+      refl
+      (algebra.fold-Scalar ℕ nodes_step f.first.expr ∙ ap (λ (k : ℕ). 1 + k) t.nodes)
+      (algebra.fold-Scalar ℕ depth_step f.first.expr ∙ ap (λ (k : ℕ). 1 + k) t.depth) (omega arith) f.rest
 
   module _ (start n d : ℕ) (from : Found) (operand : IsFound here start n d from) where
     pub selected-found : (items : List Item) (found : Found) → 0 < length items → selected known scopes items from ≡ Ok found
@@ -188,12 +188,12 @@ module _ (known : Declarations) (scopes : List Scope) (next : ℕ) (force : InFo
         let f = through (items_selected known scopes from.columns items) (λ (all : Selection). limited (core.Select all.exprs from.query) all.columns from.next) found is in
         let t = items-typed known scopes next force from.columns items f.first f.is in
         made_limited here (core.Select f.first.exprs from.query) f.first.columns from.next start (1 + (names.all_nodes names.item_nodes items + n)) (1 + max (names.deepest (map names.item_depth items)) d) found
-          (ap (typed_in here) (algebra.fold-Select RelTyping column_types_step f.first.exprs from.query)
-            ∙ selected_types here (types_under from.query here) f.first.exprs from.columns (types_of f.first.columns) operand.typed t.0.typed)
-          (subst (λ (k : ℕ). 0 < k) (sym t.1) some)
-          (algebra.fold-Select ℕ nodes_step f.first.exprs from.query ∙ (λ i. 1 + (t.0.nodes i + operand.nodes i)))
-          (algebra.fold-Select ℕ depth_step f.first.exprs from.query ∙ (λ i. 1 + max (t.0.depth i) (operand.depth i)))
-          operand.next f.rest
+        (ap (typed_in here) (algebra.fold-Select RelTyping column_types_step f.first.exprs from.query)
+        ∙ selected_types here (types_under from.query here) f.first.exprs from.columns (types_of f.first.columns) operand.typed t.0.typed)
+        (subst (λ (k : ℕ). 0 < k) (sym t.1) some)
+        (algebra.fold-Select ℕ nodes_step f.first.exprs from.query ∙ (λ i. 1 + (t.0.nodes i + operand.nodes i)))
+        (algebra.fold-Select ℕ depth_step f.first.exprs from.query ∙ (λ i. 1 + max (t.0.depth i) (operand.depth i)))
+        operand.next f.rest
 
     pub filtered-found : (e : PExpr) (found : Found) → filtered known scopes e from ≡ Ok found → IsFound here start (1 + (names.expr_nodes e + n)) (1 + max (names.expr_depth e) d) found
     unfolding filtered filtered_by
@@ -202,29 +202,29 @@ module _ (known : Declarations) (scopes : List Scope) (next : ℕ) (force : InFo
         let t = expression-typed e known scopes next from.columns f.first force f.is in
         let g = where_true (same_type Truth f.first.ty) TypeMismatch (Ok (record { query = core.Filter f.first.expr from.query; columns = from.columns; next = from.next })) found f.rest in
         made here (core.Filter f.first.expr from.query) from.columns from.next start (1 + (names.expr_nodes e + n)) (1 + max (names.expr_depth e) d) found
-          (ap (typed_in here) (algebra.fold-Filter RelTyping column_types_step f.first.expr from.query)
-            ∙ tested_types here (types_under from.query here) f.first.expr from.columns f.first.ty operand.typed t.typed g.holds)
-          operand.wide
-          (algebra.fold-Filter ℕ nodes_step f.first.expr from.query ∙ (λ i. 1 + (t.nodes i + operand.nodes i)))
-          (algebra.fold-Filter ℕ depth_step f.first.expr from.query ∙ (λ i. 1 + max (t.depth i) (operand.depth i)))
-          operand.next g.rest
+        (ap (typed_in here) (algebra.fold-Filter RelTyping column_types_step f.first.expr from.query)
+        ∙ tested_types here (types_under from.query here) f.first.expr from.columns f.first.ty operand.typed t.typed g.holds)
+        operand.wide
+        (algebra.fold-Filter ℕ nodes_step f.first.expr from.query ∙ (λ i. 1 + (t.nodes i + operand.nodes i)))
+        (algebra.fold-Filter ℕ depth_step f.first.expr from.query ∙ (λ i. 1 + max (t.depth i) (operand.depth i)))
+        operand.next g.rest
 
     pub grouped-found : (keys : List PCol) (aggs : List (PAgg × Option Word)) (grouping : Grouping) (found : Found) → grouping_found from.columns keys aggs ≡ Ok grouping → grouped_by from grouping ≡ Ok found
         → IsFound here start (1 + n) (1 + d) found
     unfolding grouped_by summed_by
     grouped-found keys aggs grouping found grouped is =
         let f = unless (is_no_grouping grouping.keys grouping.aggs) WrongCount
-              (summed_by from grouping) found is in
+        (summed_by from grouping) found is in
         let g = where_true (list_all (sums_ints from.columns) grouping.aggs) TypeMismatch (limited (core.Group grouping.keys grouping.aggs from.query) grouping.columns from.next) found f.rest in
         let typed = (grouping-typed from.columns keys aggs grouping grouped).typed g.holds in
         made_limited here (core.Group grouping.keys grouping.aggs from.query) grouping.columns from.next start (1 + n) (1 + d) found
-          (ap (typed_in here) (algebra.fold-Group RelTyping column_types_step grouping.keys grouping.aggs from.query)
-            ∙ ap (option_and_then (λ columns. group_types grouping.keys grouping.aggs columns)) operand.typed
-            ∙ ap within_limits typed)
-          (subst (λ (k : ℕ). 0 < k) (length-map grouping.columns ty_of) (grouping_some (types_of from.columns) grouping.keys grouping.aggs (types_of grouping.columns) f.passes typed))
-          (algebra.fold-Group ℕ nodes_step grouping.keys grouping.aggs from.query ∙ ap (λ (k : ℕ). 1 + k) operand.nodes)
-          (algebra.fold-Group ℕ depth_step grouping.keys grouping.aggs from.query ∙ ap (λ (k : ℕ). 1 + k) operand.depth)
-          operand.next g.rest
+        (ap (typed_in here) (algebra.fold-Group RelTyping column_types_step grouping.keys grouping.aggs from.query)
+        ∙ ap (option_and_then (λ columns. group_types grouping.keys grouping.aggs columns)) operand.typed
+        ∙ ap within_limits typed)
+        (subst (λ (k : ℕ). 0 < k) (length-map grouping.columns ty_of) (grouping_some (types_of from.columns) grouping.keys grouping.aggs (types_of grouping.columns) f.passes typed))
+        (algebra.fold-Group ℕ nodes_step grouping.keys grouping.aggs from.query ∙ ap (λ (k : ℕ). 1 + k) operand.nodes)
+        (algebra.fold-Group ℕ depth_step grouping.keys grouping.aggs from.query ∙ ap (λ (k : ℕ). 1 + k) operand.depth)
+        operand.next g.rest
 
     pub ordered-found : (keys : List (PCol × Bool)) (all : List Key) (found : Found) → 0 < length keys → sorting_keys from.columns keys ≡ Ok all → ordered_by from all ≡ Ok found
         → IsFound here start (1 + n) (1 + d) found
@@ -236,23 +236,23 @@ module _ (known : Declarations) (scopes : List Scope) (next : ℕ) (force : InFo
         let has = lt-ltb 0 (length all) (subst (λ (k : ℕ). 0 < k) (sym t.1) some) in
         let are : are_sorting_keys all (types_of from.columns) ≡ true = λ i. (has i && few i) && t.0 i in
         made here (core.Order all from.query) from.columns from.next start (1 + n) (1 + d) found
-          (ap (typed_in here) (algebra.fold-Order RelTyping column_types_step all from.query)
-            ∙ ap (option_and_then (λ columns. allowed (are_sorting_keys all columns) columns)) operand.typed
-            ∙ ap (λ (b : Bool). allowed b (types_of from.columns)) are)
-          operand.wide
-          (algebra.fold-Order ℕ nodes_step all from.query ∙ ap (λ (k : ℕ). 1 + k) operand.nodes)
-          (algebra.fold-Order ℕ depth_step all from.query ∙ ap (λ (k : ℕ). 1 + k) operand.depth)
-          operand.next f.rest
+        (ap (typed_in here) (algebra.fold-Order RelTyping column_types_step all from.query)
+        ∙ ap (option_and_then (λ columns. allowed (are_sorting_keys all columns) columns)) operand.typed
+        ∙ ap (λ (b : Bool). allowed b (types_of from.columns)) are)
+        operand.wide
+        (algebra.fold-Order ℕ nodes_step all from.query ∙ ap (λ (k : ℕ). 1 + k) operand.nodes)
+        (algebra.fold-Order ℕ depth_step all from.query ∙ ap (λ (k : ℕ). 1 + k) operand.depth)
+        operand.next f.rest
 
     pub deduped-found : (found : Found) → deduped from ≡ Ok found → IsFound here start (1 + n) (1 + d) found
     unfolding deduped
     deduped-found found is =
         made here (core.Dedup from.query) from.columns from.next start (1 + n) (1 + d) found
-          (ap (typed_in here) (algebra.fold-Dedup RelTyping column_types_step from.query) ∙ operand.typed)
-          operand.wide
-          (algebra.fold-Dedup ℕ nodes_step from.query ∙ ap (λ (k : ℕ). 1 + k) operand.nodes)
-          (algebra.fold-Dedup ℕ depth_step from.query ∙ ap (λ (k : ℕ). 1 + k) operand.depth)
-          operand.next is
+        (ap (typed_in here) (algebra.fold-Dedup RelTyping column_types_step from.query) ∙ operand.typed)
+        operand.wide
+        (algebra.fold-Dedup ℕ nodes_step from.query ∙ ap (λ (k : ℕ). 1 + k) operand.nodes)
+        (algebra.fold-Dedup ℕ depth_step from.query ∙ ap (λ (k : ℕ). 1 + k) operand.depth)
+        operand.next is
 
   both_columns : (a b : List NamedColumn) → types_of a ++ (types_of b ++ []) ≡ types_of (a ++ b)
   both_columns a b = ap (λ (ts : List Ty). types_of a ++ ts) (append-nil (types_of b)) ∙ sym (map-append ty_of a b)
@@ -269,16 +269,16 @@ module _ (known : Declarations) (scopes : List Scope) (next : ℕ) (force : InFo
       let some : 0 < length columns = (let a = wide_some left.columns l.wide in let b = length-append left.columns right.columns in omega arith) in
       let wide = wide_from columns some (ltb-false 64 (length columns) u.passes) in
       let crossed : cross_types (types_under left.query here ∷ types_under right.query here ∷ []) ≡ Some (types_of columns) =
-            (λ i. cross_types (l.typed i ∷ r.typed i ∷ []))
-            ∙ ap (λ (ts : List Ty). within_limits (Some ts)) (both_columns left.columns right.columns)
-            ∙ ap (λ (b : Bool). allowed b (types_of columns)) wide in
+      (λ i. cross_types (l.typed i ∷ r.typed i ∷ []))
+      ∙ ap (λ (ts : List Ty). within_limits (Some ts)) (both_columns left.columns right.columns)
+      ∙ ap (λ (b : Bool). allowed b (types_of columns)) wide in
       made here (core.Join f.first.expr left.query right.query) columns right.next next (1 + (names.expr_nodes e + (n + m))) (1 + max (names.expr_depth e) (max d g)) found
-        (ap (typed_in here) (algebra.fold-Join RelTyping column_types_step f.first.expr left.query right.query)
-          ∙ tested_types here (cross_types (types_under left.query here ∷ types_under right.query here ∷ [])) f.first.expr columns f.first.ty crossed t.typed h.holds)
-        wide
-        (algebra.fold-Join ℕ nodes_step f.first.expr left.query right.query ∙ (λ i. 1 + (t.nodes i + (l.nodes i + r.nodes i))))
-        (algebra.fold-Join ℕ depth_step f.first.expr left.query right.query ∙ (λ i. 1 + max (t.depth i) (max (l.depth i) (r.depth i))))
-        (let a = l.next in let b = r.next in omega arith) u.rest
+      (ap (typed_in here) (algebra.fold-Join RelTyping column_types_step f.first.expr left.query right.query)
+      ∙ tested_types here (cross_types (types_under left.query here ∷ types_under right.query here ∷ [])) f.first.expr columns f.first.ty crossed t.typed h.holds)
+      wide
+      (algebra.fold-Join ℕ nodes_step f.first.expr left.query right.query ∙ (λ i. 1 + (t.nodes i + (l.nodes i + r.nodes i))))
+      (algebra.fold-Join ℕ depth_step f.first.expr left.query right.query ∙ (λ i. 1 + max (t.depth i) (max (l.depth i) (r.depth i))))
+      (let a = l.next in let b = r.next in omega arith) u.rest
 
 -- a binder whose source and body are well typed
 pub record IsBinding (context : Context) (start n m d g : ℕ) (b : Binding) : Type 0 where
@@ -299,23 +299,23 @@ module _ (context : Context) (start n m d g : ℕ) (b : Binding) (binding : IsBi
   unfolding depjoined
   depjoined-found found is =
       made context (core.DepJoin b.number b.source b.body.query) b.body.columns b.body.next start (1 + (n + m)) (1 + max d g) found
-        (ap (typed_in context) (algebra.fold-DepJoin RelTyping column_types_step b.number b.source b.body.query)
-          ∙ in_body (λ columns. types_under b.body.query (extended context b.number columns)) refl)
-        binding.wide
-        (algebra.fold-DepJoin ℕ nodes_step b.number b.source b.body.query ∙ (λ i. 1 + (binding.source_nodes i + binding.body_nodes i)))
-        (algebra.fold-DepJoin ℕ depth_step b.number b.source b.body.query ∙ (λ i. 1 + max (binding.source_depth i) (binding.body_depth i)))
-        binding.next is
+      (ap (typed_in context) (algebra.fold-DepJoin RelTyping column_types_step b.number b.source b.body.query)
+      ∙ in_body (λ columns. types_under b.body.query (extended context b.number columns)) refl)
+      binding.wide
+      (algebra.fold-DepJoin ℕ nodes_step b.number b.source b.body.query ∙ (λ i. 1 + (binding.source_nodes i + binding.body_nodes i)))
+      (algebra.fold-DepJoin ℕ depth_step b.number b.source b.body.query ∙ (λ i. 1 + max (binding.source_depth i) (binding.body_depth i)))
+      binding.next is
 
   pub listed-found : (found : Found) → listed b ≡ Ok found → IsFound context start (1 + (n + m)) (1 + max d g) found
   unfolding listed
   listed-found found is =
       made context (core.List b.number b.source b.body.query) b.body.columns b.body.next start (1 + (n + m)) (1 + max d g) found
-        (ap (typed_in context) (algebra.fold-List RelTyping column_types_step b.number b.source b.body.query)
-          ∙ in_body (λ columns. types_under b.body.query (extended context b.number columns)) refl)
-        binding.wide
-        (algebra.fold-List ℕ nodes_step b.number b.source b.body.query ∙ (λ i. 1 + (binding.source_nodes i + binding.body_nodes i)))
-        (algebra.fold-List ℕ depth_step b.number b.source b.body.query ∙ (λ i. 1 + max (binding.source_depth i) (binding.body_depth i)))
-        binding.next is
+      (ap (typed_in context) (algebra.fold-List RelTyping column_types_step b.number b.source b.body.query)
+      ∙ in_body (λ columns. types_under b.body.query (extended context b.number columns)) refl)
+      binding.wide
+      (algebra.fold-List ℕ nodes_step b.number b.source b.body.query ∙ (λ i. 1 + (binding.source_nodes i + binding.body_nodes i)))
+      (algebra.fold-List ℕ depth_step b.number b.source b.body.query ∙ (λ i. 1 + max (binding.source_depth i) (binding.body_depth i)))
+      binding.next is
 
 module _ (known : Declarations) (scopes : List Scope) (next : ℕ) (force : InForce next scopes) (n m d g : ℕ) (b : Binding) (binding : IsBinding (context_in known scopes) next n m d g b) where
   abbrev outside : Context
@@ -330,7 +330,7 @@ module _ (known : Declarations) (scopes : List Scope) (next : ℕ) (force : InFo
   hashed-found es keys found keyed is =
       let query = core.Hash b.number b.source b.body.query keys.exprs in
       let f = unless (not (is_key_count (length b.columns) (length keys.types))) WrongCount
-            (if not (same_types (types_of b.columns) keys.types) then Err TypeMismatch else Ok (record { query = query; columns = b.body.columns; next = b.body.next })) found is in
+      (if not (same_types (types_of b.columns) keys.types) then Err TypeMismatch else Ok (record { query = query; columns = b.body.columns; next = b.body.next })) found is in
       let h = unless (not (same_types (types_of b.columns) keys.types)) TypeMismatch (Ok (record { query = query; columns = b.body.columns; next = b.body.next })) found f.rest in
       let counts = right_true (nat_le 1 (length b.columns)) (nat_le (length b.columns) 4 && length b.columns == length keys.types) (true_from_not (is_key_count (length b.columns) (length keys.types)) f.passes) in
       let few = ap (λ (k : ℕ). nat_le k 4) (length-map b.columns ty_of) ∙ left_true (nat_le (length b.columns) 4) (length b.columns == length keys.types) counts in
@@ -338,13 +338,13 @@ module _ (known : Declarations) (scopes : List Scope) (next : ℕ) (force : InFo
       let t = keys-typed known scopes next force es keys keyed in
       let are : are_hash_keys (types_of b.columns) (types_of_each keys.exprs [] outside) ≡ true = ap (are_hash_keys (types_of b.columns)) t.typed ∙ (λ i. few i && same i) in
       made outside query b.body.columns b.body.next next (1 + (n + (m + names.all_nodes names.expr_nodes es))) (1 + max d (max g (names.deepest (map names.expr_depth es)))) found
-        (ap (typed_in outside) (algebra.fold-Hash RelTyping column_types_step b.number b.source b.body.query keys.exprs)
-          ∙ in_body outside next n m d g b binding (λ columns. if are_hash_keys columns (types_of_each keys.exprs [] outside) then body_under columns else None)
-              (ap (λ (t : Bool). if t then body_under (types_of b.columns) else None) are))
-        binding.wide
-        (algebra.fold-Hash ℕ nodes_step b.number b.source b.body.query keys.exprs ∙ (λ i. 1 + (binding.source_nodes i + (binding.body_nodes i + t.nodes i))))
-        (algebra.fold-Hash ℕ depth_step b.number b.source b.body.query keys.exprs ∙ (λ i. 1 + max (binding.source_depth i) (max (binding.body_depth i) (t.depth i))))
-        binding.next h.rest
+      (ap (typed_in outside) (algebra.fold-Hash RelTyping column_types_step b.number b.source b.body.query keys.exprs)
+      ∙ in_body outside next n m d g b binding (λ columns. if are_hash_keys columns (types_of_each keys.exprs [] outside) then body_under columns else None)
+      (ap (λ (t : Bool). if t then body_under (types_of b.columns) else None) are))
+      binding.wide
+      (algebra.fold-Hash ℕ nodes_step b.number b.source b.body.query keys.exprs ∙ (λ i. 1 + (binding.source_nodes i + (binding.body_nodes i + t.nodes i))))
+      (algebra.fold-Hash ℕ depth_step b.number b.source b.body.query keys.exprs ∙ (λ i. 1 + max (binding.source_depth i) (max (binding.body_depth i) (t.depth i))))
+      binding.next h.rest
 
   ranged_by : (columns : List NamedColumn) (lo hi : PBound) (range : TypedRange) (found : Found) → b.columns ≡ columns → range_found known scopes lo hi ≡ Ok range → ranged b range columns ≡ Ok found
       → IsFound outside next (1 + (n + (m + (names.bound_nodes lo + names.bound_nodes hi)))) (1 + max d (max g (max (names.bound_depth lo) (names.bound_depth hi)))) found
@@ -361,13 +361,13 @@ module _ (known : Declarations) (scopes : List Scope) (next : ℕ) (force : InFo
       let high = u.typed c.ty (right_true (is_bound_of c.ty range.lower) (is_bound_of c.ty range.upper) f.holds) in
       let fits : is_range (types_of b.columns) range.lower.bound range.upper.bound outside ≡ true = ap (λ (cs : List NamedColumn). is_range (types_of cs) range.lower.bound range.upper.bound outside) same ∙ (λ i. low i && high i) in
       made outside query b.body.columns b.body.next next (1 + (n + (m + (names.bound_nodes lo + names.bound_nodes hi)))) (1 + max d (max g (max (names.bound_depth lo) (names.bound_depth hi)))) found
-        (ap (typed_in outside) (algebra.fold-Ord RelTyping column_types_step b.number b.source b.body.query range.lower.bound range.upper.bound)
-          ∙ in_body outside next n m d g b binding (λ columns. if is_range columns range.lower.bound range.upper.bound outside then body_under columns else None)
-              (ap (λ (t : Bool). if t then body_under (types_of b.columns) else None) fits))
-        binding.wide
-        (algebra.fold-Ord ℕ nodes_step b.number b.source b.body.query range.lower.bound range.upper.bound ∙ (λ i. 1 + (binding.source_nodes i + (binding.body_nodes i + (l.nodes i + u.nodes i)))))
-        (algebra.fold-Ord ℕ depth_step b.number b.source b.body.query range.lower.bound range.upper.bound ∙ (λ i. 1 + max (binding.source_depth i) (max (binding.body_depth i) (max (l.depth i) (u.depth i)))))
-        binding.next f.rest
+      (ap (typed_in outside) (algebra.fold-Ord RelTyping column_types_step b.number b.source b.body.query range.lower.bound range.upper.bound)
+      ∙ in_body outside next n m d g b binding (λ columns. if is_range columns range.lower.bound range.upper.bound outside then body_under columns else None)
+      (ap (λ (t : Bool). if t then body_under (types_of b.columns) else None) fits))
+      binding.wide
+      (algebra.fold-Ord ℕ nodes_step b.number b.source b.body.query range.lower.bound range.upper.bound ∙ (λ i. 1 + (binding.source_nodes i + (binding.body_nodes i + (l.nodes i + u.nodes i)))))
+      (algebra.fold-Ord ℕ depth_step b.number b.source b.body.query range.lower.bound range.upper.bound ∙ (λ i. 1 + max (binding.source_depth i) (max (binding.body_depth i) (max (l.depth i) (u.depth i)))))
+      binding.next f.rest
 
   pub ranged-found : (lo hi : PBound) (range : TypedRange) (found : Found) → range_found known scopes lo hi ≡ Ok range → ranged b range b.columns ≡ Ok found
       → IsFound outside next (1 + (n + (m + (names.bound_nodes lo + names.bound_nodes hi)))) (1 + max d (max g (max (names.bound_depth lo) (names.bound_depth hi)))) found

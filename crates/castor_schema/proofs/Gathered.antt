@@ -55,6 +55,7 @@ none-typed context columns = record { typed = refl; nodes = refl; depth = refl }
 pub more-typed : (context : Context) (columns : List NamedColumn) (n m d g : ℕ) (es : List Expr) (types : List Ty) (t : Typed) → AreTyped context columns n d es types → IsTyped context columns m g t
     → AreTyped context columns (n + m) (max d g) (es ++ t.expr ∷ []) (types ++ t.ty ∷ [])
 more-typed context columns n m d g es types t are is = record {
-    typed = each-more (λ e. type_under e (types_of columns) context) es t.expr types t.ty are.typed is.typed;
-    nodes = ap (added 0) (map_push expr_nodes es t.expr) ∙ fold-append (λ a x. a + x) 0 (map expr_nodes es) (expr_nodes t.expr ∷ []) ∙ (λ i. are.nodes i + is.nodes i);
-    depth = ap (deepened 0) (map_push expr_depth es t.expr) ∙ fold-append max 0 (map expr_depth es) (expr_depth t.expr ∷ []) ∙ (λ i. max (are.depth i) (is.depth i)) }
+  typed = each-more (λ e. type_under e (types_of columns) context) es t.expr types t.ty are.typed is.typed;
+  nodes = ap (added 0) (map_push expr_nodes es t.expr) ∙ fold-append (λ a x. a + x) 0 (map expr_nodes es) (expr_nodes t.expr ∷ []) ∙ (λ i. are.nodes i + is.nodes i);
+  depth = ap (deepened 0) (map_push expr_depth es t.expr) ∙ fold-append max 0 (map expr_depth es) (expr_depth t.expr ∷ []) ∙ (λ i. max (are.depth i) (is.depth i));
+}

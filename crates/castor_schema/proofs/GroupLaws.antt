@@ -71,7 +71,8 @@ module _ (from : List NamedColumn) where
       subst AreKeys e (record {
         typed = each-more (λ k. slice_get (types_of from) k) start.keys f.first (types_of start.columns) g.first.ty are.typed (the_column-ty from f.first g.first g.is)
             ∙ ap Some (sym (map_push ty_of start.columns g.first));
-        aggs = are.aggs })
+        aggs = are.aggs;
+      })
 
   with_keys-typed : (keys : List PCol) (start all : Grouping) → AreKeys start → in_order (with_group_key from) start keys ≡ Ok all → AreKeys all
   with_keys-typed [] start all are is = subst AreKeys (ok_same _ _ is) are
@@ -87,8 +88,8 @@ module _ (from : List NamedColumn) where
       let f = through (column_number from col) (λ number. Ok (record { agg = Sum number; ty = ty.Int })) one is in
       let e : record { agg = Sum f.first; ty = ty.Int } ≡ one = ok_same _ _ f.rest in
       subst (λ (a : Aggregate). sums_ints from a.agg ≡ true → aggregate_type (types_of from) a.agg ≡ Some a.ty) e
-        (λ s. ap (λ (o : Option Ty). allowed (is_of ty.Int o) ty.Int) (slice_get-map ty_of from f.first) ∙ ap (λ (b : Bool). allowed b ty.Int) (of_column (slice_get from f.first) ∙ s))
-        sums
+      (λ s. ap (λ (o : Option Ty). allowed (is_of ty.Int o) ty.Int) (slice_get-map ty_of from f.first) ∙ ap (λ (b : Bool). allowed b ty.Int) (of_column (slice_get from f.first) ∙ s))
+      sums
     where
       of_column : (o : Option NamedColumn) → is_of ty.Int (option_map ty_of o) ≡ option_map_or (λ (c : NamedColumn). same_type ty.Int c.ty) o false
       of_column None = refl
@@ -129,8 +130,9 @@ module _ (from : List NamedColumn) where
         values_typed = λ sums.
             let both = sym (list_all-append (sums_ints from) start.aggs (f.first.agg ∷ [])) ∙ sums in
             each-more (aggregate_type (types_of from)) start.aggs f.first.agg are.values f.first.ty
-              (are.values_typed (left_true (list_all (sums_ints from) start.aggs) (list_all (sums_ints from) (f.first.agg ∷ [])) both))
-              (aggregate-typed agg f.first f.is (left_true (sums_ints from f.first.agg) true (right_true (list_all (sums_ints from) start.aggs) (list_all (sums_ints from) (f.first.agg ∷ [])) both))) })
+            (are.values_typed (left_true (list_all (sums_ints from) start.aggs) (list_all (sums_ints from) (f.first.agg ∷ [])) both))
+            (aggregate-typed agg f.first f.is (left_true (sums_ints from f.first.agg) true (right_true (list_all (sums_ints from) start.aggs) (list_all (sums_ints from) (f.first.agg ∷ [])) both)));
+      })
 
   with_aggregates-typed : (keys : List Ty) (aggs : List (PAgg × Option Word)) (start all : Grouping) → AreGrouped keys start → in_order (with_aggregate from) start aggs ≡ Ok all → AreGrouped keys all
   with_aggregates-typed keys [] start all are is = subst (AreGrouped keys) (ok_same _ _ is) are
@@ -149,10 +151,11 @@ module _ (from : List NamedColumn) where
       let f = through (in_order (with_group_key from) (record { keys = []; aggs = []; columns = [] }) keys) (λ found. in_order (with_aggregate from) found aggs) all is in
       let k = with_keys-typed keys (record { keys = []; aggs = []; columns = [] }) f.first (record { typed = refl; aggs = refl }) f.is in
       let start : AreGrouped (types_of f.first.columns) f.first = record {
-            values = [];
-            columns = sym (append-nil (types_of f.first.columns));
-            keys_typed = k.typed;
-            values_typed = λ sums. ap (λ (gs : List Agg). each (map (aggregate_type (types_of from)) gs)) k.aggs } in
+        values = [];
+        columns = sym (append-nil (types_of f.first.columns));
+        keys_typed = k.typed;
+        values_typed = λ sums. ap (λ (gs : List Agg). each (map (aggregate_type (types_of from)) gs)) k.aggs;
+      } in
       let g = with_aggregates-typed (types_of f.first.columns) aggs f.first all start f.rest in
       record { typed = λ sums. (λ i. with_both (λ keys values. keys ++ values) (g.keys_typed i) (g.values_typed sums i)) ∙ ap Some (sym g.columns) }
 

@@ -49,7 +49,7 @@ numbered_named number type few =
     let continue = digits_continue (decimal number) (digits_decimal digits number (omega arith)) in
     let short = length-decimal-le 2 number (omega arith) (omega arith) (omega arith) in
     let bounds : (nat_lt 0 (length (99 ∷ decimal number)) && nat_le (length (99 ∷ decimal number)) 64) ≡ true =
-          λ i. lt-ltb 0 (length (99 ∷ decimal number)) (omega arith) i && le-leb (length (99 ∷ decimal number)) 64 (omega arith) i in
+    λ i. lt-ltb 0 (length (99 ∷ decimal number)) (omega arith) i && le-leb (length (99 ∷ decimal number)) 64 (omega arith) i in
     λ i. true && ((true && continue i) && bounds i)
 
 pub called_named : (name : Option Word) (number : ℕ) (type : Ty) → is_alias name ≡ true → number < 64 → has_name_form (called_or_numbered name number type).name ≡ true

@@ -98,7 +98,7 @@ module _ (known : Declarations) (scopes : List Scope) (inside : are_scopes_named
   output_named number item output formed few is =
       let i = item_found known scopes columns number item output is in
       subst (λ (c : NamedColumn). is_named c ≡ true) (sym i.column)
-        (item_named scopes columns number item.name i.found inside are (right_true (is_expr_formed item.expr) (is_alias item.name) formed) few)
+      (item_named scopes columns number item.name i.found inside are (right_true (is_expr_formed item.expr) (is_alias item.name) formed) few)
 
   -- one item more
   record IsMore (start more : Selection) (item : Item) : Type 0 where
@@ -130,7 +130,7 @@ module _ (known : Declarations) (scopes : List Scope) (inside : are_scopes_named
       let n = items_count (item ∷ items) start all is in
       let one = output_named (length start.columns) item m.output (left_true (is_item_formed item) (list_all is_item_formed items) formed) (omega arith) m.is in
       with_items_named items f.first all (right_true (is_item_formed item) (list_all is_item_formed items) formed)
-        (subst (λ (cs : List NamedColumn). are_named cs ≡ true) (sym m.put_out) (push_named start.columns m.output.column so_far one)) few f.rest
+      (subst (λ (cs : List NamedColumn). are_named cs ≡ true) (sym m.put_out) (push_named start.columns m.output.column so_far one)) few f.rest
 
   pub items_named : (items : List Item) (all : Selection) → list_all is_item_formed items ≡ true → length all.columns ≤ 64 → items_selected known scopes columns items ≡ Ok all → are_named all.columns ≡ true
   unfolding items_selected
@@ -178,7 +178,7 @@ module _ (from : List NamedColumn) (are : are_named from ≡ true) where
       let alias = right_true (is_aggregate_formed agg) (is_alias name) (left_true (is_agg_formed (agg, name)) (list_all is_agg_formed aggs) formed) in
       let one = called_named name (length start.columns) m.ty alias (omega arith) in
       with_aggregates_named aggs f.first all (right_true (is_agg_formed (agg, name)) (list_all is_agg_formed aggs) formed)
-        (subst (λ (cs : List NamedColumn). are_named cs ≡ true) (sym m.columns) (push_named start.columns (called_or_numbered name (length start.columns) m.ty) so_far one)) few f.rest
+      (subst (λ (cs : List NamedColumn). are_named cs ≡ true) (sym m.columns) (push_named start.columns (called_or_numbered name (length start.columns) m.ty) so_far one)) few f.rest
 
   pub grouping_named : (keys : List PCol) (aggs : List (PAgg × Option Word)) (all : Grouping) → list_all is_agg_formed aggs ≡ true → length all.columns ≤ 64 → grouping_found from keys aggs ≡ Ok all → are_named all.columns ≡ true
   unfolding grouping_found

@@ -120,13 +120,13 @@ crossed_named known scopes are inside (r ∷ rs) start all formed so_far is =
     let e : record { queries = start.queries ++ g.first.query ∷ []; columns = start.columns ++ g.first.columns; next = g.first.next } ≡ f.first = ok_same _ _ g.rest in
     let one = r.1 known scopes start.next g.first are inside (left_true (is_formed r.0) (are_true (map is_formed (relations rs))) formed) g.is in
     crossed_named known scopes are inside rs f.first all (right_true (is_formed r.0) (are_true (map is_formed (relations rs))) formed)
-      (subst (λ (c : Crossing). are_named c.columns ≡ true) e (append_named start.columns g.first.columns so_far one)) f.rest
+    (subst (λ (c : Crossing). are_named c.columns ≡ true) e (append_named start.columns g.first.columns so_far one)) f.rest
 
 cross_named : (rs : List (With Named)) → Named (R.Cross (relations rs))
 cross_named rs known scopes next found are inside formed is =
     let ps = relations rs in
     let f = through (in_order (with_crossed known scopes) (record { queries = []; columns = []; next = next }) (map relation ps)) (λ (all : Crossing). limited (core.Cross all.queries) all.columns all.next) found
-          (sym (ap (meaning known scopes next) (fold-Cross Finding relation_step ps)) ∙ is) in
+    (sym (ap (meaning known scopes next) (fold-Cross Finding relation_step ps)) ∙ is) in
     let parts = right_true (has_some (map is_formed ps)) (are_true (map is_formed ps)) (sym (fold-Cross Bool formed_step ps) ∙ formed) in
     (given_limited (core.Cross f.first.queries) f.first.columns f.first.next found f.rest).named (crossed_named known scopes are inside rs (record { queries = []; columns = []; next = next }) f.first parts refl f.is)
 
@@ -140,7 +140,7 @@ operands_named known scopes are inside (r ∷ rs) start all formed so_far is =
     let e : record { queries = start.queries ++ g.first.query ∷ []; columns = start.columns ++ g.first.columns ∷ []; next = g.first.next } ≡ f.first = ok_same _ _ g.rest in
     let one = r.1 known scopes start.next g.first are inside (left_true (is_formed r.0) (are_true (map is_formed (relations rs))) formed) g.is in
     operands_named known scopes are inside rs f.first all (right_true (is_formed r.0) (are_true (map is_formed (relations rs))) formed)
-      (subst (λ (c : Operands). list_all are_named c.columns ≡ true) e (list_all-append are_named start.columns (g.first.columns ∷ []) ∙ (λ i. so_far i && (one i && true)))) f.rest
+    (subst (λ (c : Operands). list_all are_named c.columns ≡ true) e (list_all-append are_named start.columns (g.first.columns ∷ []) ∙ (λ i. so_far i && (one i && true)))) f.rest
 
 first_named : (columns : List (List NamedColumn)) → list_all are_named columns ≡ true → are_named (first_columns columns) ≡ true
 first_named [] are = refl
@@ -151,13 +151,13 @@ unfolding concatenated
 concat_named rs known scopes next found are inside formed is =
     let ps = relations rs in
     let f = through (in_order (with_operand known scopes) (record { queries = []; columns = []; next = next }) (map relation ps)) (λ (all : Operands). concatenated all) found
-          (sym (ap (meaning known scopes next) (fold-Concat Finding relation_step ps)) ∙ is) in
+    (sym (ap (meaning known scopes next) (fold-Concat Finding relation_step ps)) ∙ is) in
     let parts = right_true (has_some (map is_formed ps)) (are_true (map is_formed ps)) (sym (fold-Concat Bool formed_step ps) ∙ formed) in
     let g = unless (not (same_widths f.first.columns)) WrongCount
-          (if not (same_column_types f.first.columns) then Err TypeMismatch else Ok (record { query = core.Concat f.first.queries; columns = first_columns f.first.columns; next = f.first.next })) found f.rest in
+    (if not (same_column_types f.first.columns) then Err TypeMismatch else Ok (record { query = core.Concat f.first.queries; columns = first_columns f.first.columns; next = f.first.next })) found f.rest in
     let h = unless (not (same_column_types f.first.columns)) TypeMismatch (Ok (record { query = core.Concat f.first.queries; columns = first_columns f.first.columns; next = f.first.next })) found g.rest in
     given (core.Concat f.first.queries) (first_columns f.first.columns) f.first.next found h.rest
-      (first_named f.first.columns (operands_named known scopes are inside rs (record { queries = []; columns = []; next = next }) f.first parts refl f.is))
+    (first_named f.first.columns (operands_named known scopes are inside rs (record { queries = []; columns = []; next = next }) f.first parts refl f.is))
 
 select_named : (items : List Item) (r : PRel) → Named r → Named (R.Select items r)
 unfolding selected
@@ -176,22 +176,22 @@ filter_named e r nr known scopes next found are inside formed is =
     let g = through (expression e known scopes f.first.columns) (λ test. filtered_by f.first test) found f.rest in
     let h = where_true (same_type Truth g.first.ty) TypeMismatch (Ok (record { query = core.Filter g.first.expr f.first.query; columns = f.first.columns; next = f.first.next })) found g.rest in
     given (core.Filter g.first.expr f.first.query) f.first.columns f.first.next found h.rest
-      (nr known scopes next f.first are inside (right_true (is_expr_formed e) (is_formed r) (sym (fold-Filter Bool formed_step e r) ∙ formed)) f.is)
+    (nr known scopes next f.first are inside (right_true (is_expr_formed e) (is_formed r) (sym (fold-Filter Bool formed_step e r) ∙ formed)) f.is)
 
 join_named : (e : PExpr) (r s : PRel) → Named r → Named s → Named (R.Join e r s)
 unfolding joined joined_by
 join_named e r s nr ns known scopes next found are inside formed is =
     let f = through (relation r known scopes next) (λ (left : Found). and_then (relation s known scopes left.next) (λ right. joined known scopes e left right)) found
-          (sym (ap (meaning known scopes next) (fold-Join Finding relation_step e r s)) ∙ is) in
+    (sym (ap (meaning known scopes next) (fold-Join Finding relation_step e r s)) ∙ is) in
     let g = through (relation s known scopes f.first.next) (λ right. joined known scopes e f.first right) found f.rest in
     let columns = f.first.columns ++ g.first.columns in
     let h = through (expression e known scopes columns) (λ test. joined_by (side_by_side f.first g.first) test) found g.rest in
     let t = where_true (same_type Truth h.first.ty) TypeMismatch (limited (core.Join h.first.expr f.first.query g.first.query) columns g.first.next) found h.rest in
     let parts = right_true (is_expr_formed e) (is_formed r && is_formed s) (sym (fold-Join Bool formed_step e r s) ∙ formed) in
     (given_limited (core.Join h.first.expr f.first.query g.first.query) columns g.first.next found t.rest).named
-      (append_named f.first.columns g.first.columns
-        (nr known scopes next f.first are inside (left_true (is_formed r) (is_formed s) parts) f.is)
-        (ns known scopes f.first.next g.first are inside (right_true (is_formed r) (is_formed s) parts) g.is))
+    (append_named f.first.columns g.first.columns
+    (nr known scopes next f.first are inside (left_true (is_formed r) (is_formed s) parts) f.is)
+    (ns known scopes f.first.next g.first are inside (right_true (is_formed r) (is_formed s) parts) g.is))
 
 -- a binder
 body_named : (r s : PRel) (name : List ℕ) (known : Declarations) (scopes : List Scope) (next : ℕ) (from : Found) (b : Binding) → Named r → Named s → AreDeclaredNamed known → are_scopes_named scopes ≡ true → is_formed r ≡ true → is_formed s ≡ true
@@ -208,38 +208,38 @@ depjoin_named : (w : Word) (r s : PRel) → Named r → Named s → Named (R.Dep
 unfolding depjoined
 depjoin_named w r s nr ns known scopes next found are inside formed is =
     let a = through (relation r known scopes (next + 1)) (λ from. and_then (bound_over (relation s) w.text known scopes next from) (λ binding. depjoined binding)) found
-          (sym (ap (meaning known scopes next) (fold-DepJoin Finding relation_step w r s)) ∙ is) in
+    (sym (ap (meaning known scopes next) (fold-DepJoin Finding relation_step w r s)) ∙ is) in
     let f = through (bound_over (relation s) w.text known scopes next a.first) (λ binding. depjoined binding) found a.rest in
     let parts = right_true (is_word w) (is_formed r && is_formed s) (sym (fold-DepJoin Bool formed_step w r s) ∙ formed) in
     given (core.DepJoin f.first.number f.first.source f.first.body.query) f.first.body.columns f.first.body.next found f.rest
-      (body_named r s w.text known scopes next a.first f.first nr ns are inside (left_true (is_formed r) (is_formed s) parts) (right_true (is_formed r) (is_formed s) parts) a.is f.is)
+    (body_named r s w.text known scopes next a.first f.first nr ns are inside (left_true (is_formed r) (is_formed s) parts) (right_true (is_formed r) (is_formed s) parts) a.is f.is)
 
 list_named : (w : Word) (r s : PRel) → Named r → Named s → Named (R.List w r s)
 unfolding listed
 list_named w r s nr ns known scopes next found are inside formed is =
     let a = through (relation r known scopes (next + 1)) (λ from. and_then (bound_over (relation s) w.text known scopes next from) (λ binding. listed binding)) found
-          (sym (ap (meaning known scopes next) (fold-List Finding relation_step w r s)) ∙ is) in
+    (sym (ap (meaning known scopes next) (fold-List Finding relation_step w r s)) ∙ is) in
     let f = through (bound_over (relation s) w.text known scopes next a.first) (λ binding. listed binding) found a.rest in
     let parts = right_true (is_word w) (is_formed r && is_formed s) (sym (fold-List Bool formed_step w r s) ∙ formed) in
     given (core.List f.first.number f.first.source f.first.body.query) f.first.body.columns f.first.body.next found f.rest
-      (body_named r s w.text known scopes next a.first f.first nr ns are inside (left_true (is_formed r) (is_formed s) parts) (right_true (is_formed r) (is_formed s) parts) a.is f.is)
+    (body_named r s w.text known scopes next a.first f.first nr ns are inside (left_true (is_formed r) (is_formed s) parts) (right_true (is_formed r) (is_formed s) parts) a.is f.is)
 
 hash_named : (w : Word) (r s : PRel) (es : List PExpr) → Named r → Named s → Named (R.Hash w r s es)
 unfolding hashed_by hashed
 hash_named w r s es nr ns known scopes next found are inside formed is =
     let a = through (relation r known scopes (next + 1)) (λ from. and_then (bound_over (relation s) w.text known scopes next from) (λ binding. hashed_by known scopes es binding)) found
-          (sym (ap (meaning known scopes next) (fold-Hash Finding relation_step w r s es)) ∙ is) in
+    (sym (ap (meaning known scopes next) (fold-Hash Finding relation_step w r s es)) ∙ is) in
     let f = through (bound_over (relation s) w.text known scopes next a.first) (λ binding. hashed_by known scopes es binding) found a.rest in
     let g = through (index_keys known scopes es) (λ keys. hashed f.first keys) found f.rest in
     let query = core.Hash f.first.number f.first.source f.first.body.query g.first.exprs in
     let h = unless (not (is_key_count (length f.first.columns) (length g.first.types))) WrongCount
-          (if not (same_types (types_of f.first.columns) g.first.types) then Err TypeMismatch else Ok (record { query = query; columns = f.first.body.columns; next = f.first.body.next })) found g.rest in
+    (if not (same_types (types_of f.first.columns) g.first.types) then Err TypeMismatch else Ok (record { query = query; columns = f.first.body.columns; next = f.first.body.next })) found g.rest in
     let t = unless (not (same_types (types_of f.first.columns) g.first.types)) TypeMismatch (Ok (record { query = query; columns = f.first.body.columns; next = f.first.body.next })) found h.rest in
     let after = is_formed s && (has_some es && list_all is_expr_formed es) in
     let parts = right_true (is_word w) (is_formed r && after) (sym (fold-Hash Bool formed_step w r s es) ∙ formed) in
     given query f.first.body.columns f.first.body.next found t.rest
-      (body_named r s w.text known scopes next a.first f.first nr ns are inside (left_true (is_formed r) after parts)
-        (left_true (is_formed s) (has_some es && list_all is_expr_formed es) (right_true (is_formed r) after parts)) a.is f.is)
+    (body_named r s w.text known scopes next a.first f.first nr ns are inside (left_true (is_formed r) after parts)
+    (left_true (is_formed s) (has_some es && list_all is_expr_formed es) (right_true (is_formed r) after parts)) a.is f.is)
 
 ranged_named : (b : Binding) (range : TypedRange) (columns : List NamedColumn) (found : Found) → ranged b range columns ≡ Ok found → are_named b.body.columns ≡ true → are_named found.columns ≡ true
 unfolding ranged
@@ -254,20 +254,20 @@ ordered_named : (w : Word) (r s : PRel) (lo hi : PBound) → Named r → Named s
 unfolding ranged_by
 ordered_named w r s lo hi nr ns known scopes next found are inside formed is =
     let a = through (relation r known scopes (next + 1)) (λ from. and_then (bound_over (relation s) w.text known scopes next from) (λ binding. ranged_by known scopes lo hi binding)) found
-          (sym (ap (meaning known scopes next) (fold-Ord Finding relation_step w r s lo hi)) ∙ is) in
+    (sym (ap (meaning known scopes next) (fold-Ord Finding relation_step w r s lo hi)) ∙ is) in
     let f = through (bound_over (relation s) w.text known scopes next a.first) (λ binding. ranged_by known scopes lo hi binding) found a.rest in
     let g = through (range_found known scopes lo hi) (λ range. ranged f.first range f.first.columns) found f.rest in
     let after = is_formed s && (is_bound_formed lo && is_bound_formed hi) in
     let parts = right_true (is_word w) (is_formed r && after) (sym (fold-Ord Bool formed_step w r s lo hi) ∙ formed) in
     ranged_named f.first g.first f.first.columns found g.rest
-      (body_named r s w.text known scopes next a.first f.first nr ns are inside (left_true (is_formed r) after parts)
-        (left_true (is_formed s) (is_bound_formed lo && is_bound_formed hi) (right_true (is_formed r) after parts)) a.is f.is)
+    (body_named r s w.text known scopes next a.first f.first nr ns are inside (left_true (is_formed r) after parts)
+    (left_true (is_formed s) (is_bound_formed lo && is_bound_formed hi) (right_true (is_formed r) after parts)) a.is f.is)
 
 group_named : (keys : List PCol) (aggs : List (PAgg × Option Word)) (r : PRel) → Named r → Named (R.Group keys aggs r)
 unfolding grouped grouped_by summed_by
 group_named keys aggs r nr known scopes next found are inside formed is =
     let f = through (relation r known scopes next) (λ from. grouped keys aggs from) found
-          (sym (ap (meaning known scopes next) (fold-Group Finding relation_step keys aggs r)) ∙ is) in
+    (sym (ap (meaning known scopes next) (fold-Group Finding relation_step keys aggs r)) ∙ is) in
     let g = through (grouping_found f.first.columns keys aggs) (λ grouping. grouped_by f.first grouping) found f.rest in
     let query = core.Group g.first.keys g.first.aggs f.first.query in
     let h = unless (is_no_grouping g.first.keys g.first.aggs) WrongCount (summed_by f.first g.first) found g.rest in
@@ -281,12 +281,12 @@ order_named : (keys : List (PCol × Bool)) (r : PRel) → Named r → Named (R.O
 unfolding ordered ordered_by
 order_named keys r nr known scopes next found are inside formed is =
     let f = through (relation r known scopes next) (λ from. ordered keys from) found
-          (sym (ap (meaning known scopes next) (fold-Order Finding relation_step keys r)) ∙ is) in
+    (sym (ap (meaning known scopes next) (fold-Order Finding relation_step keys r)) ∙ is) in
     let g = through (sorting_keys f.first.columns keys) (λ all. ordered_by f.first all) found f.rest in
     let h = unless (nat_lt 65535 (length g.first)) TooLarge (Ok (record { query = core.Order g.first f.first.query; columns = f.first.columns; next = f.first.next })) found g.rest in
     let parts = right_true (has_some keys) (list_all is_key_formed keys && is_formed r) (sym (fold-Order Bool formed_step keys r) ∙ formed) in
     given (core.Order g.first f.first.query) f.first.columns f.first.next found h.rest
-      (nr known scopes next f.first are inside (right_true (list_all is_key_formed keys) (is_formed r) parts) f.is)
+    (nr known scopes next f.first are inside (right_true (list_all is_key_formed keys) (is_formed r) parts) f.is)
 
 dedup_named : (r : PRel) → Named r → Named (R.Dedup r)
 unfolding deduped
@@ -296,8 +296,21 @@ dedup_named r nr known scopes next found are inside formed is =
 
 pub relation_named : (q : PRel) → Named q
 relation_named = rel_induction Named (record {
-    table = table_named; scalar = scalar_named; cross = cross_named; concat = concat_named; select = select_named; filter = filter_named; join = join_named;
-    depjoin = depjoin_named; list = list_named; hash = hash_named; ordered = ordered_named; group = group_named; order = order_named; dedup = dedup_named })
+  table = table_named;
+  scalar = scalar_named;
+  cross = cross_named;
+  concat = concat_named;
+  select = select_named;
+  filter = filter_named;
+  join = join_named;
+  depjoin = depjoin_named;
+  list = list_named;
+  hash = hash_named;
+  ordered = ordered_named;
+  group = group_named;
+  order = order_named;
+  dedup = dedup_named;
+})
 
 -- the columns of an answer
 pub plain_named : (columns : List NamedColumn) → are_named columns ≡ true → are_names (plain_columns columns) ≡ true
@@ -315,7 +328,7 @@ columns_declared_named ((word, type) ∷ columns) start all formed so_far is =
     let e : start ++ column ∷ [] ≡ f.first = ok_same _ _ u.rest in
     let one = word_named word (left_true (is_word word) (list_all is_column_formed columns) formed) in
     columns_declared_named columns f.first all (right_true (is_word word) (list_all is_column_formed columns) formed)
-      (subst (λ (cs : List Column). are_names cs ≡ true) e (list_all-append (λ (c : Column). has_name_form c.name) start (column ∷ []) ∙ (λ i. so_far i && (one i && true)))) f.rest
+    (subst (λ (cs : List Column). are_names cs ≡ true) e (list_all-append (λ (c : Column). has_name_form c.name) start (column ∷ []) ∙ (λ i. so_far i && (one i && true)))) f.rest
 
 table_declared_named : (known more : Declarations) (word : Word) (columns : List (Word × Ty)) → is_word word ≡ true → list_all is_column_formed columns ≡ true → AreDeclaredNamed known → with_table known word columns ≡ Ok more → AreDeclaredNamed more
 unfolding with_table
@@ -328,7 +341,8 @@ table_declared_named known more word columns formed_name formed are is =
     let named = columns_declared_named columns [] f.first formed refl f.is in
     subst AreDeclaredNamed (ok_same _ _ v.rest) (record {
       tables = list_all-append is_table_named known.tables (table ∷ []) ∙ (λ i. are.tables i && ((name i && named i) && true));
-      params = are.params })
+      params = are.params;
+    })
 
 param_declared_named : (known more : Declarations) (word : Word) (type : Ty) → is_word word ≡ true → AreDeclaredNamed known → with_param known word type ≡ Ok more → AreDeclaredNamed more
 unfolding with_param
@@ -339,7 +353,8 @@ param_declared_named known more word type formed are is =
     let name = word_named word formed in
     subst AreDeclaredNamed (ok_same _ _ v.rest) (record {
       tables = are.tables;
-      params = list_all-append (λ (c : Column). has_name_form c.name) known.params (param ∷ []) ∙ (λ i. are.params i && (name i && true)) })
+      params = list_all-append (λ (c : Column). has_name_form c.name) known.params (param ∷ []) ∙ (λ i. are.params i && (name i && true));
+    })
 
 one_declared_named : (known more : Declarations) (decl : Decl) → is_decl_formed decl ≡ true → AreDeclaredNamed known → with_declaration known decl ≡ Ok more → AreDeclaredNamed more
 unfolding with_declaration
@@ -353,7 +368,7 @@ all_declared_named [] known all formed are is = subst AreDeclaredNamed (ok_same 
 all_declared_named (decl ∷ decls) known all formed are is =
     let f = through (with_declaration known decl) (λ more. in_order with_declaration more decls) all is in
     all_declared_named decls f.first all (right_true (is_decl_formed decl) (list_all is_decl_formed decls) formed)
-      (one_declared_named known f.first decl (left_true (is_decl_formed decl) (list_all is_decl_formed decls) formed) are f.is) f.rest
+    (one_declared_named known f.first decl (left_true (is_decl_formed decl) (list_all is_decl_formed decls) formed) are f.is) f.rest
 
 pub declared_named : (decls : List Decl) (known : Declarations) → list_all is_decl_formed decls ≡ true → declared decls ≡ Ok known → AreDeclaredNamed known
 declared_named decls known formed is = all_declared_named decls no_declarations known formed (record { tables = refl; params = refl }) is

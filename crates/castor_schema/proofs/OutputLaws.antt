@@ -99,10 +99,11 @@ module _ (known : Declarations) (scopes : List Scope) (next : ℕ) (force : InFo
   with_item-typed columns n d start more item are is =
       let f = through (item_output known scopes columns (length start.columns) item) (λ (output : Output). Ok (record { exprs = start.exprs ++ output.expr ∷ []; columns = start.columns ++ output.column ∷ [] })) more is in
       let e : record { exprs = start.exprs ++ f.first.expr ∷ []; columns = start.columns ++ f.first.column ∷ [] } ≡ more = ok_same _ _ f.rest in
-      let typed = more-typed here columns n (names.item_nodes item) d (names.item_depth item) start.exprs (types_of start.columns) (record { expr = f.first.expr; ty = f.first.column.ty }) are (output-typed columns (length start.columns) item f.first f.is) in
-      ( subst (Selected columns (n + names.item_nodes item) (max d (names.item_depth item))) e
-          (subst (AreTyped here columns (n + names.item_nodes item) (max d (names.item_depth item)) (start.exprs ++ f.first.expr ∷ [])) (sym (map_push ty_of start.columns f.first.column)) typed)
-      , ap (λ (s : Selection). length s.columns) (sym e) ∙ length-append start.columns (f.first.column ∷ []) )
+      let typed = more-typed here columns n (names.item_nodes item) d (names.item_depth item) start.exprs (types_of start.columns) (record { expr = f.first.expr; ty = f.first.column.ty }) are (output-typed columns (length start.columns) item f.first f.is) in (
+        subst (Selected columns (n + names.item_nodes item) (max d (names.item_depth item))) e
+            (subst (AreTyped here columns (n + names.item_nodes item) (max d (names.item_depth item)) (start.exprs ++ f.first.expr ∷ [])) (sym (map_push ty_of start.columns f.first.column)) typed),
+        ap (λ (s : Selection). length s.columns) (sym e) ∙ length-append start.columns (f.first.column ∷ []),
+      )
 
   with_items-typed : (columns : List NamedColumn) (items : List Item) (n d : ℕ) (start all : Selection) → Selected columns n d start → in_order (with_item known scopes columns) start items ≡ Ok all
       → Selected columns (added n (map names.item_nodes items)) (deepened d (map names.item_depth items)) all × (length all.columns ≡ length start.columns + length items)
@@ -136,9 +137,9 @@ module _ (known : Declarations) (scopes : List Scope) (next : ℕ) (force : InFo
       let g = through (expression e known scopes []) (λ (key : Typed). Ok (record { exprs = start.exprs ++ key.expr ∷ []; types = start.types ++ key.ty ∷ [] })) f.first f.is in
       let same : record { exprs = start.exprs ++ g.first.expr ∷ []; types = start.types ++ g.first.ty ∷ [] } ≡ f.first = ok_same _ _ g.rest in
       with_keys-typed es (n + names.expr_nodes e) (max d (names.expr_depth e)) f.first all
-        (subst (Keyed (n + names.expr_nodes e) (max d (names.expr_depth e))) same
-          (more-typed here [] n (names.expr_nodes e) d (names.expr_depth e) start.exprs start.types g.first are (expression-typed e known scopes next [] g.first force g.is)))
-        f.rest
+      (subst (Keyed (n + names.expr_nodes e) (max d (names.expr_depth e))) same
+      (more-typed here [] n (names.expr_nodes e) d (names.expr_depth e) start.exprs start.types g.first are (expression-typed e known scopes next [] g.first force g.is)))
+      f.rest
 
   pub keys-typed : (es : List PExpr) (all : IndexKeys) → index_keys known scopes es ≡ Ok all → Keyed (names.all_nodes names.expr_nodes es) (names.deepest (map names.expr_depth es)) all
   unfolding index_keys

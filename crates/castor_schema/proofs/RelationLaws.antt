@@ -99,16 +99,18 @@ module _ (known : Declarations) (scopes : List Scope) (are : AreKnown known) (fi
   crossed-more n d start more r means formed so_far is =
       let f = through (relation r known scopes start.next) (λ (found : Found). Ok (record { queries = start.queries ++ found.query ∷ []; columns = start.columns ++ found.columns; next = found.next })) more is in
       let t = means known scopes start.next f.first are (in_force-more first start.next scopes so_far.next force) formed f.is in
-      let e : record { queries = start.queries ++ f.first.query ∷ []; columns = start.columns ++ f.first.columns; next = f.first.next } ≡ more = ok_same _ _ f.rest in
-      ( subst (AreCrossed (n + names.nodes r) (max d (names.depth r))) e (record {
+      let e : record { queries = start.queries ++ f.first.query ∷ []; columns = start.columns ++ f.first.columns; next = f.first.next } ≡ more = ok_same _ _ f.rest in (
+        subst (AreCrossed (n + names.nodes r) (max d (names.depth r))) e (record {
           types = so_far.types ++ types_of f.first.columns ∷ [];
           typed = each-more (λ r. types_under r here) start.queries f.first.query so_far.types (types_of f.first.columns) so_far.typed t.typed;
           columns = flat_push so_far.types (types_of f.first.columns) ∙ ap (λ (ts : List Ty). ts ++ types_of f.first.columns) so_far.columns ∙ sym (map-append (λ (c : NamedColumn). c.ty) start.columns f.first.columns);
           nodes = nodes_push start.queries f.first.query ∙ (λ i. so_far.nodes i + t.nodes i);
           depth = depth_push start.queries f.first.query ∙ (λ i. max (so_far.depth i) (t.depth i));
           next = (let a = so_far.next in let b = t.next in omega arith);
-          some = λ more. (let a = wide_some f.first.columns t.wide in let b = length-append start.columns f.first.columns in omega arith) })
-      , ap (λ (c : Crossing). length c.queries) (sym e) ∙ length-append start.queries (f.first.query ∷ []) )
+          some = λ more. (let a = wide_some f.first.columns t.wide in let b = length-append start.columns f.first.columns in omega arith);
+        }),
+        ap (λ (c : Crossing). length c.queries) (sym e) ∙ length-append start.queries (f.first.query ∷ []),
+      )
 
   crossed-all : (rs : List (With Means)) (n d : ℕ) (start all : Crossing) → are_true (map is_formed (relations rs)) ≡ true → AreCrossed n d start
       → in_order (with_crossed known scopes) start (map relation (relations rs)) ≡ Ok all
@@ -131,14 +133,14 @@ module _ (known : Declarations) (scopes : List Scope) (are : AreKnown known) (fi
       let c = found_all.0 in
       let has : 0 < length all.queries = (let n = found_all.1 in omega arith) in
       made_limited here (core.Cross all.queries) all.columns all.next first (1 + sum (map names.nodes (relations rs))) (1 + names.deepest (map names.depth (relations rs))) found
-        (ap (λ (m : RelTyping). m here) (algebra.fold-Cross RelTyping column_types_step all.queries)
-          ∙ ap cross_types (typed_each here all.queries)
-          ∙ ap (λ (o : Option (List (List Ty))). within_limits (option_map (λ all. flat_map (λ types. types) all) o)) c.typed
-          ∙ ap (λ (ts : List Ty). within_limits (Some ts)) c.columns)
-        (c.some has)
-        (algebra.fold-Cross ℕ nodes_step all.queries ∙ ap (λ (k : ℕ). 1 + k) c.nodes)
-        (algebra.fold-Cross ℕ depth_step all.queries ∙ ap (λ (k : ℕ). 1 + k) c.depth)
-        c.next rest
+      (ap (λ (m : RelTyping). m here) (algebra.fold-Cross RelTyping column_types_step all.queries)
+      ∙ ap cross_types (typed_each here all.queries)
+      ∙ ap (λ (o : Option (List (List Ty))). within_limits (option_map (λ all. flat_map (λ types. types) all) o)) c.typed
+      ∙ ap (λ (ts : List Ty). within_limits (Some ts)) c.columns)
+      (c.some has)
+      (algebra.fold-Cross ℕ nodes_step all.queries ∙ ap (λ (k : ℕ). 1 + k) c.nodes)
+      (algebra.fold-Cross ℕ depth_step all.queries ∙ ap (λ (k : ℕ). 1 + k) c.depth)
+      c.next rest
 
   -- the operands of a concat so far
   record AreOperands (n d : ℕ) (all : Operands) : Type 0 where
@@ -154,14 +156,16 @@ module _ (known : Declarations) (scopes : List Scope) (are : AreKnown known) (fi
   operands-more n d start more r means formed so_far is =
       let f = through (relation r known scopes start.next) (λ (found : Found). Ok (record { queries = start.queries ++ found.query ∷ []; columns = start.columns ++ found.columns ∷ []; next = found.next })) more is in
       let t = means known scopes start.next f.first are (in_force-more first start.next scopes so_far.next force) formed f.is in
-      let e : record { queries = start.queries ++ f.first.query ∷ []; columns = start.columns ++ f.first.columns ∷ []; next = f.first.next } ≡ more = ok_same _ _ f.rest in
-      ( subst (AreOperands (n + names.nodes r) (max d (names.depth r))) e (record {
+      let e : record { queries = start.queries ++ f.first.query ∷ []; columns = start.columns ++ f.first.columns ∷ []; next = f.first.next } ≡ more = ok_same _ _ f.rest in (
+        subst (AreOperands (n + names.nodes r) (max d (names.depth r))) e (record {
           typed = each-more (λ r. types_under r here) start.queries f.first.query (map types_of start.columns) (types_of f.first.columns) so_far.typed t.typed ∙ ap Some (sym (map_push types_of start.columns f.first.columns));
           wide = list_all-append (λ columns. are_columns (types_of columns)) start.columns (f.first.columns ∷ []) ∙ (λ i. so_far.wide i && (t.wide i && true));
           nodes = nodes_push start.queries f.first.query ∙ (λ i. so_far.nodes i + t.nodes i);
           depth = depth_push start.queries f.first.query ∙ (λ i. max (so_far.depth i) (t.depth i));
-          next = (let a = so_far.next in let b = t.next in omega arith) })
-      , ap (λ (c : Operands). length c.columns) (sym e) ∙ length-append start.columns (f.first.columns ∷ []) )
+          next = (let a = so_far.next in let b = t.next in omega arith);
+        }),
+        ap (λ (c : Operands). length c.columns) (sym e) ∙ length-append start.columns (f.first.columns ∷ []),
+      )
 
   operands-all : (rs : List (With Means)) (n d : ℕ) (start all : Operands) → are_true (map is_formed (relations rs)) ≡ true → AreOperands n d start
       → in_order (with_operand known scopes) start (map relation (relations rs)) ≡ Ok all
@@ -196,17 +200,17 @@ module _ (known : Declarations) (scopes : List Scope) (are : AreKnown known) (fi
       let c = found_all.0 in
       let has : 0 < length all.columns = (let n = found_all.1 in omega arith) in
       let f = unless (not (same_widths all.columns)) WrongCount
-            (if not (same_column_types all.columns) then Err TypeMismatch else Ok (record { query = core.Concat all.queries; columns = first_columns all.columns; next = all.next })) found rest in
+      (if not (same_column_types all.columns) then Err TypeMismatch else Ok (record { query = core.Concat all.queries; columns = first_columns all.columns; next = all.next })) found rest in
       let g = unless (not (same_column_types all.columns)) TypeMismatch (Ok (record { query = core.Concat all.queries; columns = first_columns all.columns; next = all.next })) found f.rest in
       made here (core.Concat all.queries) (first_columns all.columns) all.next first (1 + sum (map names.nodes (relations rs))) (1 + names.deepest (map names.depth (relations rs))) found
-        (ap (λ (m : RelTyping). m here) (algebra.fold-Concat RelTyping column_types_step all.queries)
-          ∙ ap (λ os. option_and_then common_types (each os)) (typed_each here all.queries)
-          ∙ ap (option_and_then common_types) c.typed
-          ∙ common all.columns has (true_from_not (same_column_types all.columns) g.passes))
-        (first_wide all.columns has c.wide)
-        (algebra.fold-Concat ℕ nodes_step all.queries ∙ ap (λ (k : ℕ). 1 + k) c.nodes)
-        (algebra.fold-Concat ℕ depth_step all.queries ∙ ap (λ (k : ℕ). 1 + k) c.depth)
-        c.next g.rest
+      (ap (λ (m : RelTyping). m here) (algebra.fold-Concat RelTyping column_types_step all.queries)
+      ∙ ap (λ os. option_and_then common_types (each os)) (typed_each here all.queries)
+      ∙ ap (option_and_then common_types) c.typed
+      ∙ common all.columns has (true_from_not (same_column_types all.columns) g.passes))
+      (first_wide all.columns has c.wide)
+      (algebra.fold-Concat ℕ nodes_step all.queries ∙ ap (λ (k : ℕ). 1 + k) c.nodes)
+      (algebra.fold-Concat ℕ depth_step all.queries ∙ ap (λ (k : ℕ). 1 + k) c.depth)
+      c.next g.rest
 
   -- a binder
   bound-found : (r s : PRel) (name : List ℕ) (from : Found) (b : Binding) → Means r → Means s → is_formed r ≡ true → is_formed s ≡ true → relation r known scopes (first + 1) ≡ Ok from
@@ -218,9 +222,15 @@ module _ (known : Declarations) (scopes : List Scope) (are : AreKnown known) (fi
       let body = ms known (scope_over first name from ∷ scopes) from.next g.first are ((let a = source.next in omega arith), force) formed_s g.is in
       let e : record { number = first; source = from.query; columns = from.columns; body = g.first } ≡ b = ok_same _ _ g.rest in
       subst (IsBinding here first (names.nodes r) (names.nodes s) (names.depth r) (names.depth s)) e (record {
-        source = source.typed; body = body.typed; wide = body.wide;
-        source_nodes = source.nodes; body_nodes = body.nodes; source_depth = source.depth; body_depth = body.depth;
-        next = (let a = source.next in let c = body.next in omega arith) })
+        source = source.typed;
+        body = body.typed;
+        wide = body.wide;
+        source_nodes = source.nodes;
+        body_nodes = body.nodes;
+        source_depth = source.depth;
+        body_depth = body.depth;
+        next = (let a = source.next in let c = body.next in omega arith);
+      })
 
 -- each operator
 abbrev meaning : Declarations → List Scope → ℕ → Finding → Result Found SchemaError
@@ -229,38 +239,38 @@ meaning known scopes next m = m known scopes next
 table_means : (w : Word) → Means (R.Table w)
 table_means w known scopes next found are force formed is =
     found_sized (context_in known scopes) next 1 (names.nodes (R.Table w)) 1 (names.depth (R.Table w)) found
-      (table-found known scopes next force w.text found are (sym (ap (meaning known scopes next) (fold-Table Finding relation_step w)) ∙ is))
-      (sym (fold-Table ℕ names.nodes_step w)) (sym (fold-Table ℕ names.depth_step w))
+    (table-found known scopes next force w.text found are (sym (ap (meaning known scopes next) (fold-Table Finding relation_step w)) ∙ is))
+    (sym (fold-Table ℕ names.nodes_step w)) (sym (fold-Table ℕ names.depth_step w))
 
 scalar_means : (item : Item) → Means (R.Scalar item)
 scalar_means item known scopes next found are force formed is =
     found_sized (context_in known scopes) next (1 + names.item_nodes item) (names.nodes (R.Scalar item)) (1 + names.item_depth item) (names.depth (R.Scalar item)) found
-      (scalar-found known scopes next force item found (sym (ap (meaning known scopes next) (fold-Scalar Finding relation_step item)) ∙ is))
-      (sym (fold-Scalar ℕ names.nodes_step item)) (sym (fold-Scalar ℕ names.depth_step item))
+    (scalar-found known scopes next force item found (sym (ap (meaning known scopes next) (fold-Scalar Finding relation_step item)) ∙ is))
+    (sym (fold-Scalar ℕ names.nodes_step item)) (sym (fold-Scalar ℕ names.depth_step item))
 
 cross_means : (rs : List (With Means)) → Means (R.Cross (relations rs))
 cross_means rs known scopes next found are force formed is =
     let ps = relations rs in
     let f = through (in_order (with_crossed known scopes) (record { queries = []; columns = []; next = next }) (map relation ps)) (λ (all : Crossing). limited (core.Cross all.queries) all.columns all.next) found
-          (sym (ap (meaning known scopes next) (fold-Cross Finding relation_step ps)) ∙ is) in
+    (sym (ap (meaning known scopes next) (fold-Cross Finding relation_step ps)) ∙ is) in
     let parts = sym (fold-Cross Bool formed_step ps) ∙ formed in
     found_sized (context_in known scopes) next (1 + sum (map names.nodes ps)) (names.nodes (R.Cross ps)) (1 + names.deepest (map names.depth ps)) (names.depth (R.Cross ps)) found
-      (crossed-found known scopes are next force rs f.first found
-        (some_of_map is_formed ps (left_true (has_some (map is_formed ps)) (are_true (map is_formed ps)) parts))
-        (right_true (has_some (map is_formed ps)) (are_true (map is_formed ps)) parts) f.is f.rest)
-      (sym (fold-Cross ℕ names.nodes_step ps)) (sym (fold-Cross ℕ names.depth_step ps))
+    (crossed-found known scopes are next force rs f.first found
+    (some_of_map is_formed ps (left_true (has_some (map is_formed ps)) (are_true (map is_formed ps)) parts))
+    (right_true (has_some (map is_formed ps)) (are_true (map is_formed ps)) parts) f.is f.rest)
+    (sym (fold-Cross ℕ names.nodes_step ps)) (sym (fold-Cross ℕ names.depth_step ps))
 
 concat_means : (rs : List (With Means)) → Means (R.Concat (relations rs))
 concat_means rs known scopes next found are force formed is =
     let ps = relations rs in
     let f = through (in_order (with_operand known scopes) (record { queries = []; columns = []; next = next }) (map relation ps)) (λ (all : Operands). concatenated all) found
-          (sym (ap (meaning known scopes next) (fold-Concat Finding relation_step ps)) ∙ is) in
+    (sym (ap (meaning known scopes next) (fold-Concat Finding relation_step ps)) ∙ is) in
     let parts = sym (fold-Concat Bool formed_step ps) ∙ formed in
     found_sized (context_in known scopes) next (1 + sum (map names.nodes ps)) (names.nodes (R.Concat ps)) (1 + names.deepest (map names.depth ps)) (names.depth (R.Concat ps)) found
-      (concat-found known scopes are next force rs f.first found
-        (some_of_map is_formed ps (left_true (has_some (map is_formed ps)) (are_true (map is_formed ps)) parts))
-        (right_true (has_some (map is_formed ps)) (are_true (map is_formed ps)) parts) f.is f.rest)
-      (sym (fold-Concat ℕ names.nodes_step ps)) (sym (fold-Concat ℕ names.depth_step ps))
+    (concat-found known scopes are next force rs f.first found
+    (some_of_map is_formed ps (left_true (has_some (map is_formed ps)) (are_true (map is_formed ps)) parts))
+    (right_true (has_some (map is_formed ps)) (are_true (map is_formed ps)) parts) f.is f.rest)
+    (sym (fold-Concat ℕ names.nodes_step ps)) (sym (fold-Concat ℕ names.depth_step ps))
 
 select_means : (items : List Item) (r : PRel) → Means r → Means (R.Select items r)
 select_means items r mr known scopes next found are force formed is =
@@ -269,8 +279,8 @@ select_means items r mr known scopes next found are force formed is =
     let rest = right_true (has_some items) (list_all is_item_formed items && is_formed r) parts in
     let operand = mr known scopes next f.first are force (right_true (list_all is_item_formed items) (is_formed r) rest) f.is in
     found_sized (context_in known scopes) next (1 + (names.all_nodes names.item_nodes items + names.nodes r)) (names.nodes (R.Select items r)) (1 + max (names.deepest (map names.item_depth items)) (names.depth r)) (names.depth (R.Select items r)) found
-      (selected-found known scopes next force next (names.nodes r) (names.depth r) f.first operand items found (some_length items (left_true (has_some items) (list_all is_item_formed items && is_formed r) parts)) f.rest)
-      (sym (fold-Select ℕ names.nodes_step items r)) (sym (fold-Select ℕ names.depth_step items r))
+    (selected-found known scopes next force next (names.nodes r) (names.depth r) f.first operand items found (some_length items (left_true (has_some items) (list_all is_item_formed items && is_formed r) parts)) f.rest)
+    (sym (fold-Select ℕ names.nodes_step items r)) (sym (fold-Select ℕ names.depth_step items r))
 
 filter_means : (e : PExpr) (r : PRel) → Means r → Means (R.Filter e r)
 filter_means e r mr known scopes next found are force formed is =
@@ -278,112 +288,125 @@ filter_means e r mr known scopes next found are force formed is =
     let parts = sym (fold-Filter Bool formed_step e r) ∙ formed in
     let operand = mr known scopes next f.first are force (right_true (is_expr_formed e) (is_formed r) parts) f.is in
     found_sized (context_in known scopes) next (1 + (names.expr_nodes e + names.nodes r)) (names.nodes (R.Filter e r)) (1 + max (names.expr_depth e) (names.depth r)) (names.depth (R.Filter e r)) found
-      (filtered-found known scopes next force next (names.nodes r) (names.depth r) f.first operand e found f.rest)
-      (sym (fold-Filter ℕ names.nodes_step e r)) (sym (fold-Filter ℕ names.depth_step e r))
+    (filtered-found known scopes next force next (names.nodes r) (names.depth r) f.first operand e found f.rest)
+    (sym (fold-Filter ℕ names.nodes_step e r)) (sym (fold-Filter ℕ names.depth_step e r))
 
 join_means : (e : PExpr) (r s : PRel) → Means r → Means s → Means (R.Join e r s)
 join_means e r s mr ms known scopes next found are force formed is =
     let f = through (relation r known scopes next) (λ (left : Found). and_then (relation s known scopes left.next) (λ right. joined known scopes e left right)) found
-          (sym (ap (meaning known scopes next) (fold-Join Finding relation_step e r s)) ∙ is) in
+    (sym (ap (meaning known scopes next) (fold-Join Finding relation_step e r s)) ∙ is) in
     let g = through (relation s known scopes f.first.next) (λ right. joined known scopes e f.first right) found f.rest in
     let parts = right_true (is_expr_formed e) (is_formed r && is_formed s) (sym (fold-Join Bool formed_step e r s) ∙ formed) in
     let left = mr known scopes next f.first are force (left_true (is_formed r) (is_formed s) parts) f.is in
     let right = ms known scopes f.first.next g.first are (in_force-more next f.first.next scopes left.next force) (right_true (is_formed r) (is_formed s) parts) g.is in
     found_sized (context_in known scopes) next (1 + (names.expr_nodes e + (names.nodes r + names.nodes s))) (names.nodes (R.Join e r s))
-        (1 + max (names.expr_depth e) (max (names.depth r) (names.depth s))) (names.depth (R.Join e r s)) found
-      (joined-found known scopes next force e (names.nodes r) (names.nodes s) (names.depth r) (names.depth s) f.first g.first found left right g.rest)
-      (sym (fold-Join ℕ names.nodes_step e r s)) (sym (fold-Join ℕ names.depth_step e r s))
+    (1 + max (names.expr_depth e) (max (names.depth r) (names.depth s))) (names.depth (R.Join e r s)) found
+    (joined-found known scopes next force e (names.nodes r) (names.nodes s) (names.depth r) (names.depth s) f.first g.first found left right g.rest)
+    (sym (fold-Join ℕ names.nodes_step e r s)) (sym (fold-Join ℕ names.depth_step e r s))
 
 depjoin_means : (w : Word) (r s : PRel) → Means r → Means s → Means (R.DepJoin w r s)
 depjoin_means w r s mr ms known scopes next found are force formed is =
     let a = through (relation r known scopes (next + 1)) (λ from. and_then (bound_over (relation s) w.text known scopes next from) (λ binding. depjoined binding)) found
-          (sym (ap (meaning known scopes next) (fold-DepJoin Finding relation_step w r s)) ∙ is) in
+    (sym (ap (meaning known scopes next) (fold-DepJoin Finding relation_step w r s)) ∙ is) in
     let f = through (bound_over (relation s) w.text known scopes next a.first) (λ binding. depjoined binding) found a.rest in
     let parts = right_true (is_word w) (is_formed r && is_formed s) (sym (fold-DepJoin Bool formed_step w r s) ∙ formed) in
     let binding = bound-found known scopes are next force r s w.text a.first f.first mr ms (left_true (is_formed r) (is_formed s) parts) (right_true (is_formed r) (is_formed s) parts) a.is f.is in
     found_sized (context_in known scopes) next (1 + (names.nodes r + names.nodes s)) (names.nodes (R.DepJoin w r s)) (1 + max (names.depth r) (names.depth s)) (names.depth (R.DepJoin w r s)) found
-      (depjoined-found (context_in known scopes) next (names.nodes r) (names.nodes s) (names.depth r) (names.depth s) f.first binding found f.rest)
-      (sym (fold-DepJoin ℕ names.nodes_step w r s)) (sym (fold-DepJoin ℕ names.depth_step w r s))
+    (depjoined-found (context_in known scopes) next (names.nodes r) (names.nodes s) (names.depth r) (names.depth s) f.first binding found f.rest)
+    (sym (fold-DepJoin ℕ names.nodes_step w r s)) (sym (fold-DepJoin ℕ names.depth_step w r s))
 
 list_means : (w : Word) (r s : PRel) → Means r → Means s → Means (R.List w r s)
 list_means w r s mr ms known scopes next found are force formed is =
     let a = through (relation r known scopes (next + 1)) (λ from. and_then (bound_over (relation s) w.text known scopes next from) (λ binding. listed binding)) found
-          (sym (ap (meaning known scopes next) (fold-List Finding relation_step w r s)) ∙ is) in
+    (sym (ap (meaning known scopes next) (fold-List Finding relation_step w r s)) ∙ is) in
     let f = through (bound_over (relation s) w.text known scopes next a.first) (λ binding. listed binding) found a.rest in
     let parts = right_true (is_word w) (is_formed r && is_formed s) (sym (fold-List Bool formed_step w r s) ∙ formed) in
     let binding = bound-found known scopes are next force r s w.text a.first f.first mr ms (left_true (is_formed r) (is_formed s) parts) (right_true (is_formed r) (is_formed s) parts) a.is f.is in
     found_sized (context_in known scopes) next (1 + (names.nodes r + names.nodes s)) (names.nodes (R.List w r s)) (1 + max (names.depth r) (names.depth s)) (names.depth (R.List w r s)) found
-      (listed-found (context_in known scopes) next (names.nodes r) (names.nodes s) (names.depth r) (names.depth s) f.first binding found f.rest)
-      (sym (fold-List ℕ names.nodes_step w r s)) (sym (fold-List ℕ names.depth_step w r s))
+    (listed-found (context_in known scopes) next (names.nodes r) (names.nodes s) (names.depth r) (names.depth s) f.first binding found f.rest)
+    (sym (fold-List ℕ names.nodes_step w r s)) (sym (fold-List ℕ names.depth_step w r s))
 
 hash_means : (w : Word) (r s : PRel) (es : List PExpr) → Means r → Means s → Means (R.Hash w r s es)
 unfolding hashed_by
 hash_means w r s es mr ms known scopes next found are force formed is =
     let a = through (relation r known scopes (next + 1)) (λ from. and_then (bound_over (relation s) w.text known scopes next from) (λ binding. hashed_by known scopes es binding)) found
-          (sym (ap (meaning known scopes next) (fold-Hash Finding relation_step w r s es)) ∙ is) in
+    (sym (ap (meaning known scopes next) (fold-Hash Finding relation_step w r s es)) ∙ is) in
     let f = through (bound_over (relation s) w.text known scopes next a.first) (λ binding. hashed_by known scopes es binding) found a.rest in
     let g = through (index_keys known scopes es) (λ keys. hashed f.first keys) found f.rest in
     let inside = is_formed s && (has_some es && list_all is_expr_formed es) in
     let parts = right_true (is_word w) (is_formed r && inside) (sym (fold-Hash Bool formed_step w r s es) ∙ formed) in
     let binding = bound-found known scopes are next force r s w.text a.first f.first mr ms (left_true (is_formed r) inside parts)
-          (left_true (is_formed s) (has_some es && list_all is_expr_formed es) (right_true (is_formed r) inside parts)) a.is f.is in
+    (left_true (is_formed s) (has_some es && list_all is_expr_formed es) (right_true (is_formed r) inside parts)) a.is f.is in
     found_sized (context_in known scopes) next (1 + (names.nodes r + (names.nodes s + names.all_nodes names.expr_nodes es))) (names.nodes (R.Hash w r s es))
-        (1 + max (names.depth r) (max (names.depth s) (names.deepest (map names.expr_depth es)))) (names.depth (R.Hash w r s es)) found
-      (hashed-found known scopes next force (names.nodes r) (names.nodes s) (names.depth r) (names.depth s) f.first binding es g.first found g.is g.rest)
-      (sym (fold-Hash ℕ names.nodes_step w r s es)) (sym (fold-Hash ℕ names.depth_step w r s es))
+    (1 + max (names.depth r) (max (names.depth s) (names.deepest (map names.expr_depth es)))) (names.depth (R.Hash w r s es)) found
+    (hashed-found known scopes next force (names.nodes r) (names.nodes s) (names.depth r) (names.depth s) f.first binding es g.first found g.is g.rest)
+    (sym (fold-Hash ℕ names.nodes_step w r s es)) (sym (fold-Hash ℕ names.depth_step w r s es))
 
 ordered_means : (w : Word) (r s : PRel) (lo hi : PBound) → Means r → Means s → Means (R.Ord w r s lo hi)
 unfolding ranged_by
 ordered_means w r s lo hi mr ms known scopes next found are force formed is =
     let a = through (relation r known scopes (next + 1)) (λ from. and_then (bound_over (relation s) w.text known scopes next from) (λ binding. ranged_by known scopes lo hi binding)) found
-          (sym (ap (meaning known scopes next) (fold-Ord Finding relation_step w r s lo hi)) ∙ is) in
+    (sym (ap (meaning known scopes next) (fold-Ord Finding relation_step w r s lo hi)) ∙ is) in
     let f = through (bound_over (relation s) w.text known scopes next a.first) (λ binding. ranged_by known scopes lo hi binding) found a.rest in
     let g = through (range_found known scopes lo hi) (λ range. ranged f.first range f.first.columns) found f.rest in
     let inside = is_formed s && (is_bound_formed lo && is_bound_formed hi) in
     let parts = right_true (is_word w) (is_formed r && inside) (sym (fold-Ord Bool formed_step w r s lo hi) ∙ formed) in
     let binding = bound-found known scopes are next force r s w.text a.first f.first mr ms (left_true (is_formed r) inside parts)
-          (left_true (is_formed s) (is_bound_formed lo && is_bound_formed hi) (right_true (is_formed r) inside parts)) a.is f.is in
+    (left_true (is_formed s) (is_bound_formed lo && is_bound_formed hi) (right_true (is_formed r) inside parts)) a.is f.is in
     found_sized (context_in known scopes) next (1 + (names.nodes r + (names.nodes s + (names.bound_nodes lo + names.bound_nodes hi)))) (names.nodes (R.Ord w r s lo hi))
-        (1 + max (names.depth r) (max (names.depth s) (max (names.bound_depth lo) (names.bound_depth hi)))) (names.depth (R.Ord w r s lo hi)) found
-      (ranged-found known scopes next force (names.nodes r) (names.nodes s) (names.depth r) (names.depth s) f.first binding lo hi g.first found g.is g.rest)
-      (sym (fold-Ord ℕ names.nodes_step w r s lo hi)) (sym (fold-Ord ℕ names.depth_step w r s lo hi))
+    (1 + max (names.depth r) (max (names.depth s) (max (names.bound_depth lo) (names.bound_depth hi)))) (names.depth (R.Ord w r s lo hi)) found
+    (ranged-found known scopes next force (names.nodes r) (names.nodes s) (names.depth r) (names.depth s) f.first binding lo hi g.first found g.is g.rest)
+    (sym (fold-Ord ℕ names.nodes_step w r s lo hi)) (sym (fold-Ord ℕ names.depth_step w r s lo hi))
 
 group_means : (keys : List PCol) (aggs : List (PAgg × Option Word)) (r : PRel) → Means r → Means (R.Group keys aggs r)
 unfolding grouped
 group_means keys aggs r mr known scopes next found are force formed is =
     let f = through (relation r known scopes next) (λ from. grouped keys aggs from) found
-          (sym (ap (meaning known scopes next) (fold-Group Finding relation_step keys aggs r)) ∙ is) in
+    (sym (ap (meaning known scopes next) (fold-Group Finding relation_step keys aggs r)) ∙ is) in
     let g = through (grouping_found f.first.columns keys aggs) (λ grouping. grouped_by f.first grouping) found f.rest in
     let rest = right_true (list_all is_col keys) (list_all is_agg_formed aggs && is_formed r) (sym (fold-Group Bool formed_step keys aggs r) ∙ formed) in
     let operand = mr known scopes next f.first are force (right_true (list_all is_agg_formed aggs) (is_formed r) rest) f.is in
     found_sized (context_in known scopes) next (1 + names.nodes r) (names.nodes (R.Group keys aggs r)) (1 + names.depth r) (names.depth (R.Group keys aggs r)) found
-      (grouped-found known scopes next force next (names.nodes r) (names.depth r) f.first operand keys aggs g.first found g.is g.rest)
-      (sym (fold-Group ℕ names.nodes_step keys aggs r)) (sym (fold-Group ℕ names.depth_step keys aggs r))
+    (grouped-found known scopes next force next (names.nodes r) (names.depth r) f.first operand keys aggs g.first found g.is g.rest)
+    (sym (fold-Group ℕ names.nodes_step keys aggs r)) (sym (fold-Group ℕ names.depth_step keys aggs r))
 
 order_means : (keys : List (PCol × Bool)) (r : PRel) → Means r → Means (R.Order keys r)
 unfolding ordered
 order_means keys r mr known scopes next found are force formed is =
     let f = through (relation r known scopes next) (λ from. ordered keys from) found
-          (sym (ap (meaning known scopes next) (fold-Order Finding relation_step keys r)) ∙ is) in
+    (sym (ap (meaning known scopes next) (fold-Order Finding relation_step keys r)) ∙ is) in
     let g = through (sorting_keys f.first.columns keys) (λ all. ordered_by f.first all) found f.rest in
     let parts = sym (fold-Order Bool formed_step keys r) ∙ formed in
     let rest = right_true (has_some keys) (list_all is_key_formed keys && is_formed r) parts in
     let operand = mr known scopes next f.first are force (right_true (list_all is_key_formed keys) (is_formed r) rest) f.is in
     found_sized (context_in known scopes) next (1 + names.nodes r) (names.nodes (R.Order keys r)) (1 + names.depth r) (names.depth (R.Order keys r)) found
-      (ordered-found known scopes next force next (names.nodes r) (names.depth r) f.first operand keys g.first found
-        (some_length keys (left_true (has_some keys) (list_all is_key_formed keys && is_formed r) parts)) g.is g.rest)
-      (sym (fold-Order ℕ names.nodes_step keys r)) (sym (fold-Order ℕ names.depth_step keys r))
+    (ordered-found known scopes next force next (names.nodes r) (names.depth r) f.first operand keys g.first found
+    (some_length keys (left_true (has_some keys) (list_all is_key_formed keys && is_formed r) parts)) g.is g.rest)
+    (sym (fold-Order ℕ names.nodes_step keys r)) (sym (fold-Order ℕ names.depth_step keys r))
 
 dedup_means : (r : PRel) → Means r → Means (R.Dedup r)
 dedup_means r mr known scopes next found are force formed is =
     let f = through (relation r known scopes next) (λ from. deduped from) found (sym (ap (meaning known scopes next) (fold-Dedup Finding relation_step r)) ∙ is) in
     let operand = mr known scopes next f.first are force (sym (fold-Dedup Bool formed_step r) ∙ formed) f.is in
     found_sized (context_in known scopes) next (1 + names.nodes r) (names.nodes (R.Dedup r)) (1 + names.depth r) (names.depth (R.Dedup r)) found
-      (deduped-found known scopes next force next (names.nodes r) (names.depth r) f.first operand found f.rest)
-      (sym (fold-Dedup ℕ names.nodes_step r)) (sym (fold-Dedup ℕ names.depth_step r))
+    (deduped-found known scopes next force next (names.nodes r) (names.depth r) f.first operand found f.rest)
+    (sym (fold-Dedup ℕ names.nodes_step r)) (sym (fold-Dedup ℕ names.depth_step r))
 
 -- a relation that isn't refused is well typed
 pub relation-found : (q : PRel) → Means q
 relation-found = rel_induction Means (record {
-    table = table_means; scalar = scalar_means; cross = cross_means; concat = concat_means; select = select_means; filter = filter_means; join = join_means;
-    depjoin = depjoin_means; list = list_means; hash = hash_means; ordered = ordered_means; group = group_means; order = order_means; dedup = dedup_means })
+  table = table_means;
+  scalar = scalar_means;
+  cross = cross_means;
+  concat = concat_means;
+  select = select_means;
+  filter = filter_means;
+  join = join_means;
+  depjoin = depjoin_means;
+  list = list_means;
+  hash = hash_means;
+  ordered = ordered_means;
+  group = group_means;
+  order = order_means;
+  dedup = dedup_means;
+})

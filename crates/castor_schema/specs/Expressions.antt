@@ -49,7 +49,7 @@ scope_number (Some scope) number = scope_read scope number
 unfoldable pub parameter : List Column → List ℕ → Result Typed SchemaError
 parameter params name =
     ok_or (option_and_then (λ number. option_map (λ (p : Column). record { expr = core.Param number; ty = p.ty }) (slice_get params number))
-      (position (λ (p : Column). bytes_eq p.name name) params)) UnknownParam
+    (position (λ (p : Column). bytes_eq p.name name) params)) UnknownParam
 
 -- an expression of a type, and TypeMismatch where it has none
 abbrev pub with_type : Expr → Option Ty → Result Typed SchemaError

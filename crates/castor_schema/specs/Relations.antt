@@ -54,7 +54,7 @@ limited query columns next = if nat_lt 64 (length columns) then Err TooLarge els
 unfoldable pub table_found : List Declared → ℕ → List ℕ → Result Found SchemaError
 table_found tables next name =
     ok_or (option_and_then (λ number. option_map (λ (t : Declared). record { query = core.Table number; columns = columns_of_table t; next = next }) (slice_get tables number))
-      (position (λ (t : Declared). bytes_eq t.name name) tables)) UnknownTable
+    (position (λ (t : Declared). bytes_eq t.name name) tables)) UnknownTable
 
 -- `scalar` has the column of its item
 unfoldable pub scalar_of : ℕ → Output → Result Found SchemaError

@@ -80,7 +80,10 @@ pub fn by_name(columns: &[NamedColumn], name: &Text) -> Result<u32, SchemaError>
 fn count_of_both(columns: &[NamedColumn], qualifier: &Text, name: &Text) -> usize
     ensures { result ≡ count_by (has_both qualifier.now name.now) columns.now }
 {
-    columns.iter().filter(|c| has_both(qualifier, name, *c)).count()
+    columns
+        .iter()
+        .filter(|c| has_both(qualifier, name, *c))
+        .count()
 }
 
 fn place_of_both(columns: &[NamedColumn], qualifier: &Text, name: &Text) -> Option<usize>

@@ -265,7 +265,11 @@ fn group_of(alloc: Global, query: Rel, found: Grouping, next: u32) -> Result<Fou
     ensures { Gives (λ found. found) error.Memory (limited (core.Group found.keys found.aggs query) found.columns next) result }
 {
     let operand = Boxed::new(alloc, query)?;
-    limited(Rel::Group(found.keys, found.aggs, operand), found.columns, next)
+    limited(
+        Rel::Group(found.keys, found.aggs, operand),
+        found.columns,
+        next,
+    )
 }
 
 #[tactic(auto, unfolding(crate::specs::Relations::summed_by))]
@@ -453,11 +457,7 @@ fn hashed(alloc: Global, binding: Binding, keys: IndexKeys) -> Result<Found, Sch
 
 /// `ordered`: a source of one column, and bounds of its type.
 #[tactic(auto, unfolding(crate::specs::Relations::ranged))]
-fn ranged(
-    alloc: Global,
-    binding: Binding,
-    range: TypedRange,
-) -> Result<Found, SchemaError>
+fn ranged(alloc: Global, binding: Binding, range: TypedRange) -> Result<Found, SchemaError>
     ensures { Gives (λ found. found) error.Memory (ranged binding range binding.columns) result }
 {
     let ty = match binding.columns.as_slice() {
@@ -471,7 +471,13 @@ fn ranged(
     let source = Boxed::new(alloc, binding.source)?;
     let body = Boxed::new(alloc, inner.query)?;
     Ok(Found {
-        query: Rel::Ord(binding.number, source, body, range.lower.bound, range.upper.bound),
+        query: Rel::Ord(
+            binding.number,
+            source,
+            body,
+            range.lower.bound,
+            range.upper.bound,
+        ),
         columns: inner.columns,
         next: inner.next,
     })

@@ -12,8 +12,8 @@ use crate::declarations::Declarations;
 use crate::error::SchemaError;
 use crate::found::Found;
 use crate::operators::{
-    concatenated, deduped, depjoined, filtered, grouped, hashed_by, joined, limited, listed, ordered,
-    ranged_by, scalar_found, selected, table_found,
+    concatenated, deduped, depjoined, filtered, grouped, hashed_by, joined, limited, listed,
+    ordered, ranged_by, scalar_found, selected, table_found,
 };
 use crate::scopes::{Scope, Scopes};
 use castor_alg::Rel;

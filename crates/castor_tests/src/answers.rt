@@ -48,7 +48,8 @@ fn answers_a_last_line_without_its_end(rt: HostRuntime) -> Result<(), Fail> {
     Ok(())
 }
 
-const DISTINCT_CUSTOMERS: &str = "table orders (id int, cust text, total int); param n int; query dedup(select([cust], filter(id <= $n, orders)))";
+const DISTINCT_CUSTOMERS: &str =
+    "table orders (id int, cust text, total int); param n int; query dedup(select([cust], filter(id <= $n, orders)))";
 
 #[test]
 fn keeps_the_first_of_equal_rows(rt: HostRuntime) -> Result<(), Fail> {
@@ -59,14 +60,14 @@ fn keeps_the_first_of_equal_rows(rt: HostRuntime) -> Result<(), Fail> {
     Ok(())
 }
 
-const GROUPS_IN_ORDER: &str = "table orders (id int, cust text, total int); param n int; query orderby([cust desc], groupby([cust], [count() as n, max(total) as most], filter(total >= $n, orders)))";
+const GROUPS_IN_ORDER: &str =
+    "table orders (id int, cust text, total int); param n int; query orderby([cust desc], groupby([cust], [count() as n, max(total) as most], filter(total >= $n, orders)))";
 
 #[test]
 fn answers_groups_in_an_order(rt: HostRuntime) -> Result<(), Fail> {
     let ran = answer(rt.alloc(), GROUPS_IN_ORDER, "5\n25\n")?;
     assert_eq!(rt; ran.status, Status::Ok);
-    let expected =
-        b"rows 2\ncust,n,most\nbob,1,20\nann,2,30\nrows 1\ncust,n,most\nann,1,30\n";
+    let expected = b"rows 2\ncust,n,most\nbob,1,20\nann,2,30\nrows 1\ncust,n,most\nann,1,30\n";
     assert_eq!(rt; ran.output.as_slice(), expected.as_slice());
     Ok(())
 }

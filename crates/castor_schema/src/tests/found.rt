@@ -34,20 +34,41 @@ fn columns_have_their_names(rt: HostRuntime) -> Result<(), Fail> {
     let alloc = rt.alloc();
     let cases = [
         ("orders", "id cust total"),
-        ("select([orders.cust, #0, (total), total + 1, $c, id as cust], orders)", "cust id total c3 c4 cust"),
+        (
+            "select([orders.cust, #0, (total), total + 1, $c, id as cust], orders)",
+            "cust id total c3 c4 cust",
+        ),
         ("scalar(1)", "c0"),
         ("scalar(1 as one)", "one"),
-        ("join(orders.id = pairs.id, orders, pairs)", "id cust total id name"),
+        (
+            "join(orders.id = pairs.id, orders, pairs)",
+            "id cust total id name",
+        ),
         ("cross(pairs, scalar(true))", "id name c0"),
         ("concat(select([id, cust], orders), pairs)", "id cust"),
-        ("groupby([cust], [count(), sum(total) as s, min(id)], orders)", "cust c1 s c3"),
-        ("orderby([total desc, #0], filter(id > 1, orders))", "id cust total"),
+        (
+            "groupby([cust], [count(), sum(total) as s, min(id)], orders)",
+            "cust c1 s c3",
+        ),
+        (
+            "orderby([total desc, #0], filter(id > 1, orders))",
+            "id cust total",
+        ),
         ("dedup(select([cust], orders))", "cust"),
-        ("depjoin(orders as k, select([k.cust, k.0, id, k.total + 1], pairs))", "cust id id c3"),
+        (
+            "depjoin(orders as k, select([k.cust, k.0, id, k.total + 1], pairs))",
+            "cust id id c3",
+        ),
         ("list(orders as k, scalar(k.total))", "total"),
         ("hash(pairs as k, orders, [$n, $c])", "id cust total"),
-        ("hash(select([1, 2, 3, 4], orders) as k, scalar(k.3), [1, 2, 3, $n])", "c3"),
-        ("ordered(select([total], orders) as k, pairs, >= $n, < 10)", "id name"),
+        (
+            "hash(select([1, 2, 3, 4], orders) as k, scalar(k.3), [1, 2, 3, $n])",
+            "c3",
+        ),
+        (
+            "ordered(select([total], orders) as k, pairs, >= $n, < 10)",
+            "id name",
+        ),
     ];
     for (query, expected) in cases {
         let found = names_of(alloc, query)?;
@@ -63,20 +84,53 @@ fn names_find_columns_and_scopes(rt: HostRuntime) -> Result<(), Fail> {
         // A qualifier stays after `select`, `join`, `cross`, `concat` and `groupby`.
         ("select([orders.id], select([id], orders))", "id"),
         ("select([pairs.id], join(total = 1, orders, pairs))", "id"),
-        ("select([orders.id, pairs.id], select([orders.id, pairs.id], cross(orders, pairs)))", "id id"),
-        ("select([orders.id], concat(select([id], orders), select([id], pairs)))", "id"),
-        ("groupby([pairs.id], [], groupby([pairs.id], [count()], cross(orders, pairs)))", "id"),
+        (
+            "select([orders.id, pairs.id], select([orders.id, pairs.id], cross(orders, pairs)))",
+            "id id",
+        ),
+        (
+            "select([orders.id], concat(select([id], orders), select([id], pairs)))",
+            "id",
+        ),
+        (
+            "groupby([pairs.id], [], groupby([pairs.id], [count()], cross(orders, pairs)))",
+            "id",
+        ),
         // The innermost scope of a name, which may be bound over rows that read the outer one.
-        ("depjoin(orders as k, depjoin(pairs as k, scalar(k.name)))", "name"),
-        ("depjoin(orders as k, depjoin(select([k.total], pairs) as k, scalar(k.total)))", "total"),
-        ("depjoin(orders as k, depjoin(pairs as j, scalar(k.total)))", "total"),
+        (
+            "depjoin(orders as k, depjoin(pairs as k, scalar(k.name)))",
+            "name",
+        ),
+        (
+            "depjoin(orders as k, depjoin(select([k.total], pairs) as k, scalar(k.total)))",
+            "total",
+        ),
+        (
+            "depjoin(orders as k, depjoin(pairs as j, scalar(k.total)))",
+            "total",
+        ),
         // A scope before a table of its name, but for the lists of `groupby` and `orderby`.
-        ("depjoin(orders as pairs, select([pairs.total], pairs))", "total"),
-        ("depjoin(orders as pairs, groupby([pairs.name], [sum(pairs.id)], pairs))", "name c1"),
-        ("depjoin(orders as pairs, orderby([pairs.name], pairs))", "id name"),
+        (
+            "depjoin(orders as pairs, select([pairs.total], pairs))",
+            "total",
+        ),
+        (
+            "depjoin(orders as pairs, groupby([pairs.name], [sum(pairs.id)], pairs))",
+            "name c1",
+        ),
+        (
+            "depjoin(orders as pairs, orderby([pairs.name], pairs))",
+            "id name",
+        ),
         // Keys and bounds read scopes outside of their own.
-        ("depjoin(orders as j, hash(select([id], pairs) as k, scalar(k.0), [j.total]))", "id"),
-        ("depjoin(orders as j, ordered(select([id], pairs) as k, scalar(k.id), > j.id, any))", "id"),
+        (
+            "depjoin(orders as j, hash(select([id], pairs) as k, scalar(k.0), [j.total]))",
+            "id",
+        ),
+        (
+            "depjoin(orders as j, ordered(select([id], pairs) as k, scalar(k.id), > j.id, any))",
+            "id",
+        ),
     ];
     for (query, expected) in cases {
         let found = names_of(alloc, query)?;
@@ -97,7 +151,12 @@ fn is_first_query(rt: &impl Abort, found: &Checked) {
         assert_eq!(rt; param.name.as_str(), "c");
         assert_eq!(rt; param.ty, Ty::Text);
     }
-    for (column, ty) in found.columns.as_slice().iter().zip([Ty::Int, Ty::Text, Ty::Int]) {
+    for (column, ty) in found
+        .columns
+        .as_slice()
+        .iter()
+        .zip([Ty::Int, Ty::Text, Ty::Int])
+    {
         assert_eq!(rt; column.ty, ty);
     }
     assert!(rt; is_equation(&found.query));
@@ -151,7 +210,8 @@ fn is_innermost(query: &Rel) -> bool {
 #[test]
 fn binders_are_numbered_in_preorder(rt: HostRuntime) -> Result<(), Fail> {
     let alloc = rt.alloc();
-    let query = "depjoin(depjoin(orders as a, pairs) as b, depjoin(orders as c, scalar(b.id + c.total)))";
+    let query =
+        "depjoin(depjoin(orders as a, pairs) as b, depjoin(orders as c, scalar(b.id + c.total)))";
     let text = over_known(alloc, query)?;
     match checked(alloc, text.as_str()) {
         Some(Ok(found)) => assert!(&rt; are_in_preorder(&found.query)),
@@ -168,17 +228,33 @@ fn worked_queries_are_refused(rt: HostRuntime) -> Result<(), Fail> {
     let alloc = rt.alloc();
     let cases = [
         ("query sales", SchemaError::UnknownTable),
-        ("query filter(city = 'x', orders)", SchemaError::UnknownColumn),
-        ("query filter(total = 'x', orders)", SchemaError::TypeMismatch),
+        (
+            "query filter(city = 'x', orders)",
+            SchemaError::UnknownColumn,
+        ),
+        (
+            "query filter(total = 'x', orders)",
+            SchemaError::TypeMismatch,
+        ),
         ("query filter(cust = $z, orders)", SchemaError::UnknownParam),
-        ("query filter(id = 1, join(total = 3, orders, select([id], orders)))", SchemaError::Ambiguous),
+        (
+            "query filter(id = 1, join(total = 3, orders, select([id], orders)))",
+            SchemaError::Ambiguous,
+        ),
         ("query scalar(k.0)", SchemaError::UnknownScope),
         ("query groupby([], [], orders)", SchemaError::WrongCount),
-        ("table t (x int, x int); query t", SchemaError::DuplicateName),
+        (
+            "table t (x int, x int); query t",
+            SchemaError::DuplicateName,
+        ),
     ];
     for (query, why) in cases {
         let text = format!(in alloc; "{ORDERS} {query}")?;
-        assert_eq!(&rt; answer(alloc, text.as_str()), Answer::Refused(why), "{query}");
+        assert_eq!(&rt;
+            answer(alloc, text.as_str()),
+            Answer::Refused(why),
+            "{query}"
+        );
     }
     let text = format!(in alloc; "{ORDERS} query filter(")?;
     assert_eq!(&rt; answer(alloc, text.as_str()), Answer::Unparsed);

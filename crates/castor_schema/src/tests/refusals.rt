@@ -1,9 +1,9 @@
 //! Each refusal from each kind of place that can give it, which of two comes first, and the limits.
 
-use crate::operators::ordered_by;
-use crate::found::Found;
-use crate::tests::tables::{Answer, answer, numbered, over_known};
 use crate::SchemaError;
+use crate::found::Found;
+use crate::operators::ordered_by;
+use crate::tests::tables::{Answer, answer, numbered, over_known};
 use castor_alg::{Key, Rel};
 use sqlite_items::Items;
 use std::alloc::Global;
@@ -11,10 +11,19 @@ use std::process::Abort;
 use std::test::Fail;
 
 /// Checks that each query over the known tables is refused so.
-fn are_refused(rt: &impl Abort, alloc: Global, queries: &[&str], why: SchemaError) -> Result<(), Fail> {
+fn are_refused(
+    rt: &impl Abort,
+    alloc: Global,
+    queries: &[&str],
+    why: SchemaError,
+) -> Result<(), Fail> {
     for query in queries {
         let text = over_known(alloc, *query)?;
-        assert_eq!(rt; answer(alloc, text.as_str()), Answer::Refused(why), "{query}");
+        assert_eq!(rt;
+            answer(alloc, text.as_str()),
+            Answer::Refused(why),
+            "{query}"
+        );
     }
     Ok(())
 }
@@ -154,18 +163,37 @@ fn the_first_of_two_causes(rt: HostRuntime) -> Result<(), Fail> {
         ("select([k.0, x], orders)", SchemaError::UnknownScope),
         ("select([x, k.0], orders)", SchemaError::UnknownColumn),
         // Names in lists before the relation's own conditions.
-        ("groupby([], [sum(cust), sum(city)], orders)", SchemaError::UnknownColumn),
-        ("hash(orders as k, scalar($z), [x])", SchemaError::UnknownParam),
+        (
+            "groupby([], [sum(cust), sum(city)], orders)",
+            SchemaError::UnknownColumn,
+        ),
+        (
+            "hash(orders as k, scalar($z), [x])",
+            SchemaError::UnknownParam,
+        ),
         ("hash(orders as k, orders, [x])", SchemaError::UnknownColumn),
-        ("ordered(orders as k, orders, >= $z, <= x)", SchemaError::UnknownParam),
+        (
+            "ordered(orders as k, orders, >= $z, <= x)",
+            SchemaError::UnknownParam,
+        ),
         // An operand before the operator, and WrongCount before TypeMismatch.
-        ("filter((not 1) + $z = 1, orders)", SchemaError::TypeMismatch),
+        (
+            "filter((not 1) + $z = 1, orders)",
+            SchemaError::TypeMismatch,
+        ),
         ("hash(pairs as k, orders, ['x'])", SchemaError::WrongCount),
-        ("concat(orders, select([cust, cust, cust], orders), pairs)", SchemaError::WrongCount),
+        (
+            "concat(orders, select([cust, cust, cust], orders), pairs)",
+            SchemaError::WrongCount,
+        ),
     ];
     for (query, why) in cases {
         let text = over_known(alloc, query)?;
-        assert_eq!(&rt; answer(alloc, text.as_str()), Answer::Refused(why), "{query}");
+        assert_eq!(&rt;
+            answer(alloc, text.as_str()),
+            Answer::Refused(why),
+            "{query}"
+        );
     }
     Ok(())
 }
@@ -174,10 +202,22 @@ fn the_first_of_two_causes(rt: HostRuntime) -> Result<(), Fail> {
 fn declarations(rt: HostRuntime) -> Result<(), Fail> {
     let alloc = rt.alloc();
     let cases = [
-        ("table t (x int, x int); query t", SchemaError::DuplicateName),
-        ("table t (x int); table t (y int); query t", SchemaError::DuplicateName),
-        ("param p int; param p text; query scalar(1)", SchemaError::DuplicateName),
-        ("table t (x int, x int); query sales", SchemaError::DuplicateName),
+        (
+            "table t (x int, x int); query t",
+            SchemaError::DuplicateName,
+        ),
+        (
+            "table t (x int); table t (y int); query t",
+            SchemaError::DuplicateName,
+        ),
+        (
+            "param p int; param p text; query scalar(1)",
+            SchemaError::DuplicateName,
+        ),
+        (
+            "table t (x int, x int); query sales",
+            SchemaError::DuplicateName,
+        ),
     ];
     for (text, why) in cases {
         assert_eq!(&rt; answer(alloc, text), Answer::Refused(why), "{text}");
@@ -196,7 +236,13 @@ fn wide_answer(alloc: Global, columns: usize, last: &str) -> Result<Answer, Fail
 }
 
 /// What comes of a query over a table of 64 columns, with a list of so many parts in its middle.
-fn listed_answer(alloc: Global, before: &str, part: &str, times: usize, after: &str) -> Result<Answer, Fail> {
+fn listed_answer(
+    alloc: Global,
+    before: &str,
+    part: &str,
+    times: usize,
+    after: &str,
+) -> Result<Answer, Fail> {
     let columns = numbered(alloc, "x@ int", 64)?;
     let list = numbered(alloc, part, times)?;
     let text = format!(in alloc; "table wide ({columns}); query {before}{list}{after}")?;
@@ -209,15 +255,39 @@ fn limits_of_columns(rt: HostRuntime) -> Result<(), Fail> {
     let large = Answer::Refused(SchemaError::TooLarge);
     assert_eq!(&rt; wide_answer(alloc, 64, "")?, Answer::Accepted);
     assert_eq!(&rt; wide_answer(alloc, 65, "")?, large);
-    assert_eq!(&rt; wide_answer(alloc, 65, ", x0 int")?, Answer::Refused(SchemaError::DuplicateName));
-    assert_eq!(&rt; listed_answer(alloc, "select([", "#@", 64, "], wide)")?, Answer::Accepted);
-    assert_eq!(&rt; listed_answer(alloc, "select([", "#0", 65, "], wide)")?, large);
-    assert_eq!(&rt; listed_answer(alloc, "groupby([", "#@", 64, "], [], wide)")?, Answer::Accepted);
-    assert_eq!(&rt; listed_answer(alloc, "groupby([", "#@", 64, "], [count()], wide)")?, large);
-    assert_eq!(&rt; listed_answer(alloc, "cross(", "wide", 1, ", scalar(1))")?, large);
-    assert_eq!(&rt; listed_answer(alloc, "join(true, ", "wide", 1, ", scalar(1))")?, large);
+    assert_eq!(&rt;
+        wide_answer(alloc, 65, ", x0 int")?,
+        Answer::Refused(SchemaError::DuplicateName)
+    );
+    assert_eq!(&rt;
+        listed_answer(alloc, "select([", "#@", 64, "], wide)")?,
+        Answer::Accepted
+    );
+    assert_eq!(&rt;
+        listed_answer(alloc, "select([", "#0", 65, "], wide)")?,
+        large
+    );
+    assert_eq!(&rt;
+        listed_answer(alloc, "groupby([", "#@", 64, "], [], wide)")?,
+        Answer::Accepted
+    );
+    assert_eq!(&rt;
+        listed_answer(alloc, "groupby([", "#@", 64, "], [count()], wide)")?,
+        large
+    );
+    assert_eq!(&rt;
+        listed_answer(alloc, "cross(", "wide", 1, ", scalar(1))")?,
+        large
+    );
+    assert_eq!(&rt;
+        listed_answer(alloc, "join(true, ", "wide", 1, ", scalar(1))")?,
+        large
+    );
     // The types of a `join` come before its width.
-    assert_eq!(&rt; listed_answer(alloc, "join(1, ", "wide", 1, ", scalar(1))")?, Answer::Refused(SchemaError::TypeMismatch));
+    assert_eq!(&rt;
+        listed_answer(alloc, "join(1, ", "wide", 1, ", scalar(1))")?,
+        Answer::Refused(SchemaError::TypeMismatch)
+    );
     Ok(())
 }
 
@@ -235,9 +305,15 @@ fn declared_answer(alloc: Global, before: &str, part: &str, times: usize) -> Res
 fn limits_of_declarations(rt: HostRuntime) -> Result<(), Fail> {
     let alloc = rt.alloc();
     let large = Answer::Refused(SchemaError::TooLarge);
-    assert_eq!(&rt; declared_answer(alloc, "table t", " (x int);", 16)?, Answer::Accepted);
+    assert_eq!(&rt;
+        declared_answer(alloc, "table t", " (x int);", 16)?,
+        Answer::Accepted
+    );
     assert_eq!(&rt; declared_answer(alloc, "table t", " (x int);", 17)?, large);
-    assert_eq!(&rt; declared_answer(alloc, "param p", " int;", 16)?, Answer::Accepted);
+    assert_eq!(&rt;
+        declared_answer(alloc, "param p", " int;", 16)?,
+        Answer::Accepted
+    );
     assert_eq!(&rt; declared_answer(alloc, "param p", " int;", 17)?, large);
     Ok(())
 }

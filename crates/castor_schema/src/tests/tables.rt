@@ -5,7 +5,8 @@ use castor_parse::parse;
 use std::alloc::{AllocError, Global};
 
 /// Two tables that share the name of a column, and two parameters.
-pub const KNOWN: &str = "table orders (id int, cust text, total int); table pairs (id int, name text); param c text; param n int;";
+pub const KNOWN: &str =
+    "table orders (id int, cust text, total int); table pairs (id int, name text); param c text; param n int;";
 
 /// What a text is checked to, and None where it isn't parsed.
 pub fn checked(alloc: Global, text: &str) -> Option<Result<Checked, SchemaError>> {

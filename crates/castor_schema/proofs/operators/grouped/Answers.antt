@@ -14,7 +14,7 @@ pub returns : goal.returns
 unfolding grouped
 returns c =
     let found : grouping_found c.args.from.columns c.args.keys.now c.args.aggs.now ≡ Ok c.in_ok-found.found =
-          ap (λ (cs : List NamedColumn). grouping_found cs c.args.keys.now c.args.aggs.now) (sym c.as_slice.ensures) ∙ c.in_ok-found.ensures in
+    ap (λ (cs : List NamedColumn). grouping_found cs c.args.keys.now c.args.aggs.now) (sym c.as_slice.ensures) ∙ c.in_ok-found.ensures in
     let is : grouped c.args.keys.now c.args.aggs.now c.args.from ≡ grouped_by c.args.from c.in_ok-found.found =
-          ap (λ (r : Result Grouping SchemaError). and_then r (λ found. grouped_by c.args.from found)) found in
+    ap (λ (r : Result Grouping SchemaError). and_then r (λ found. grouped_by c.args.from found)) found in
     subst (λ (due : Result Found SchemaError). Gives (λ (f : Found). f) error.Memory due c.grouped_by.result) (sym is) c.grouped_by.ensures

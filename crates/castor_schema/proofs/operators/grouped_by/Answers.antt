@@ -10,7 +10,7 @@ pub returns : goal.returns
 unfolding grouped_by
 returns c =
     let some : is_no_grouping c.args.found.keys c.args.found.aggs ≡ false =
-          (λ i. is_no_grouping (sym c.as_slice.ensures i) (sym c.as_slice-2.ensures i)) ∙ sym c.is_no_grouping.ensures ∙ c.if-is_no_grouping.false in
+    (λ i. is_no_grouping (sym c.as_slice.ensures i) (sym c.as_slice-2.ensures i)) ∙ sym c.is_no_grouping.ensures ∙ c.if-is_no_grouping.false in
     let is : grouped_by c.args.from c.args.found ≡ summed_by c.args.from c.args.found =
-          ap (λ (b : Bool). if b then Err error.WrongCount else summed_by c.args.from c.args.found) some in
+    ap (λ (b : Bool). if b then Err error.WrongCount else summed_by c.args.from c.args.found) some in
     subst (λ (due : Result Found SchemaError). Gives (λ (f : Found). f) error.Memory due c.summed_by.result) (sym is) c.summed_by.ensures

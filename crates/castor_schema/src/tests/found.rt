@@ -1,6 +1,6 @@
 //! What accepted queries are checked to.
 
-use crate::tests::tables::{Answer, answer, checked, over_known};
+use crate::tests::tables::{Outcome, answer, checked, over_known};
 use crate::{Checked, SchemaError};
 use castor_alg::{Expr, Op, Rel};
 use castor_val::Ty;
@@ -252,11 +252,11 @@ fn worked_queries_are_refused(rt: HostRuntime) -> Result<(), Fail> {
         let text = format!(in alloc; "{ORDERS} {query}")?;
         assert_eq!(&rt;
             answer(alloc, text.as_str()),
-            Answer::Refused(why),
+            Outcome::Refused(why),
             "{query}"
         );
     }
     let text = format!(in alloc; "{ORDERS} query filter(")?;
-    assert_eq!(&rt; answer(alloc, text.as_str()), Answer::Unparsed);
+    assert_eq!(&rt; answer(alloc, text.as_str()), Outcome::Unparsed);
     Ok(())
 }

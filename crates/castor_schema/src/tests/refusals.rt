@@ -3,7 +3,7 @@
 use crate::SchemaError;
 use crate::found::Found;
 use crate::operators::ordered_by;
-use crate::tests::tables::{Answer, answer, numbered, over_known};
+use crate::tests::tables::{Outcome, answer, numbered, over_known};
 use castor_alg::{Key, Rel};
 use sqlite_items::Items;
 use std::alloc::Global;
@@ -21,7 +21,7 @@ fn are_refused(
         let text = over_known(alloc, *query)?;
         assert_eq!(rt;
             answer(alloc, text.as_str()),
-            Answer::Refused(why),
+            Outcome::Refused(why),
             "{query}"
         );
     }
@@ -191,7 +191,7 @@ fn the_first_of_two_causes(rt: HostRuntime) -> Result<(), Fail> {
         let text = over_known(alloc, query)?;
         assert_eq!(&rt;
             answer(alloc, text.as_str()),
-            Answer::Refused(why),
+            Outcome::Refused(why),
             "{query}"
         );
     }
@@ -220,16 +220,16 @@ fn declarations(rt: HostRuntime) -> Result<(), Fail> {
         ),
     ];
     for (text, why) in cases {
-        assert_eq!(&rt; answer(alloc, text), Answer::Refused(why), "{text}");
+        assert_eq!(&rt; answer(alloc, text), Outcome::Refused(why), "{text}");
     }
     // A parameter may have the name of a table.
     let text = "table t (x int); param t int; query t";
-    assert_eq!(&rt; answer(alloc, text), Answer::Accepted);
+    assert_eq!(&rt; answer(alloc, text), Outcome::Accepted);
     Ok(())
 }
 
 /// What comes of a table of so many columns, and of others behind them.
-fn wide_answer(alloc: Global, columns: usize, last: &str) -> Result<Answer, Fail> {
+fn wide_answer(alloc: Global, columns: usize, last: &str) -> Result<Outcome, Fail> {
     let columns = numbered(alloc, "x@ int", columns)?;
     let text = format!(in alloc; "table wide ({columns}{last}); query wide")?;
     Ok(answer(alloc, text.as_str()))
@@ -242,7 +242,7 @@ fn listed_answer(
     part: &str,
     times: usize,
     after: &str,
-) -> Result<Answer, Fail> {
+) -> Result<Outcome, Fail> {
     let columns = numbered(alloc, "x@ int", 64)?;
     let list = numbered(alloc, part, times)?;
     let text = format!(in alloc; "table wide ({columns}); query {before}{list}{after}")?;
@@ -252,16 +252,16 @@ fn listed_answer(
 #[test]
 fn limits_of_columns(rt: HostRuntime) -> Result<(), Fail> {
     let alloc = rt.alloc();
-    let large = Answer::Refused(SchemaError::TooLarge);
-    assert_eq!(&rt; wide_answer(alloc, 64, "")?, Answer::Accepted);
+    let large = Outcome::Refused(SchemaError::TooLarge);
+    assert_eq!(&rt; wide_answer(alloc, 64, "")?, Outcome::Accepted);
     assert_eq!(&rt; wide_answer(alloc, 65, "")?, large);
     assert_eq!(&rt;
         wide_answer(alloc, 65, ", x0 int")?,
-        Answer::Refused(SchemaError::DuplicateName)
+        Outcome::Refused(SchemaError::DuplicateName)
     );
     assert_eq!(&rt;
         listed_answer(alloc, "select([", "#@", 64, "], wide)")?,
-        Answer::Accepted
+        Outcome::Accepted
     );
     assert_eq!(&rt;
         listed_answer(alloc, "select([", "#0", 65, "], wide)")?,
@@ -269,7 +269,7 @@ fn limits_of_columns(rt: HostRuntime) -> Result<(), Fail> {
     );
     assert_eq!(&rt;
         listed_answer(alloc, "groupby([", "#@", 64, "], [], wide)")?,
-        Answer::Accepted
+        Outcome::Accepted
     );
     assert_eq!(&rt;
         listed_answer(alloc, "groupby([", "#@", 64, "], [count()], wide)")?,
@@ -286,13 +286,13 @@ fn limits_of_columns(rt: HostRuntime) -> Result<(), Fail> {
     // The types of a `join` come before its width.
     assert_eq!(&rt;
         listed_answer(alloc, "join(1, ", "wide", 1, ", scalar(1))")?,
-        Answer::Refused(SchemaError::TypeMismatch)
+        Outcome::Refused(SchemaError::TypeMismatch)
     );
     Ok(())
 }
 
 /// What comes of so many declarations.
-fn declared_answer(alloc: Global, before: &str, part: &str, times: usize) -> Result<Answer, Fail> {
+fn declared_answer(alloc: Global, before: &str, part: &str, times: usize) -> Result<Outcome, Fail> {
     let mut text = String::new(alloc);
     for number in 0..times {
         text.push_str(format!(in alloc; "{before}{number}{part}")?.as_str())?;
@@ -304,15 +304,15 @@ fn declared_answer(alloc: Global, before: &str, part: &str, times: usize) -> Res
 #[test]
 fn limits_of_declarations(rt: HostRuntime) -> Result<(), Fail> {
     let alloc = rt.alloc();
-    let large = Answer::Refused(SchemaError::TooLarge);
+    let large = Outcome::Refused(SchemaError::TooLarge);
     assert_eq!(&rt;
         declared_answer(alloc, "table t", " (x int);", 16)?,
-        Answer::Accepted
+        Outcome::Accepted
     );
     assert_eq!(&rt; declared_answer(alloc, "table t", " (x int);", 17)?, large);
     assert_eq!(&rt;
         declared_answer(alloc, "param p", " int;", 16)?,
-        Answer::Accepted
+        Outcome::Accepted
     );
     assert_eq!(&rt; declared_answer(alloc, "param p", " int;", 17)?, large);
     Ok(())

@@ -18,18 +18,18 @@ pub fn checked(alloc: Global, text: &str) -> Option<Result<Checked, SchemaError>
 
 /// What comes of a text.
 #[derive(Clone, Copy, Debug, PartialEq, Eq)]
-pub enum Answer {
+pub enum Outcome {
     Unparsed,
     Accepted,
     Refused(SchemaError),
 }
 
 /// Whether a text is parsed, and checked.
-pub fn answer(alloc: Global, text: &str) -> Answer {
+pub fn answer(alloc: Global, text: &str) -> Outcome {
     match checked(alloc, text) {
-        Some(Ok(_)) => Answer::Accepted,
-        Some(Err(why)) => Answer::Refused(why),
-        None => Answer::Unparsed,
+        Some(Ok(_)) => Outcome::Accepted,
+        Some(Err(why)) => Outcome::Refused(why),
+        None => Outcome::Unparsed,
     }
 }
 

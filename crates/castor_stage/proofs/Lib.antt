@@ -1,0 +1,3 @@
+pub mod BuildLaws
+pub mod HoldingLaws
+pub mod WalkLaws

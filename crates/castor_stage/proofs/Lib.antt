@@ -1,3 +1,5 @@
+pub mod ArmLaws
 pub mod BuildLaws
 pub mod HoldingLaws
+pub mod OrderLaws
 pub mod WalkLaws

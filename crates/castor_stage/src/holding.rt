@@ -222,7 +222,7 @@ fn hold_keys<'e, 'a>(
     tables: &[Table],
     env: &Env<'e, 'a>,
 ) -> Result<HeldOut, Memory>
-    ensures { IfOk result (λ out. out ≡ keyed (λ row. held_under s.now tables.now (bind (scopes_of env.now) k row) unbound []) keys.entry) }
+    ensures { IfOk result (λ out. out ≡ keyed (λ row. held_under s.now tables.now (bind (scopes_of env.now) k row) unbound []) keys) }
 {
     let Out { rows, mut faults } = keys;
     let mut entries = Items::new(alloc);

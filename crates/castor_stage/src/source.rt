@@ -41,7 +41,19 @@ pub fn distinct_rows<'e, 'a>(
     ensures { IfOk result (λ out. out ≡ deduped (meaning r.now tables.now (scopes_of env.now) [])) }
 {
     let distinct = dedup(alloc, r)?;
-    Ok(source_rows(alloc, &distinct, tables, env)?)
+    Ok(rows_of(alloc, distinct, tables, env)?)
+}
+
+// What a relation gives that is let go then.
+fn rows_of<'e, 'a>(
+    alloc: Global,
+    q: Rel,
+    tables: &[Table],
+    env: &Env<'e, 'a>,
+) -> Result<Out, Memory>
+    ensures { IfOk result (λ out. out ≡ meaning q tables.now (scopes_of env.now) []) }
+{
+    Ok(source_rows(alloc, &q, tables, env)?)
 }
 
 fn dedup(alloc: Global, r: &Rel) -> Result<Rel, Memory>

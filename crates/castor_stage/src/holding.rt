@@ -1,6 +1,6 @@
 //! The data that is held for a query.
 
-ghost use Rattle.std.specs.Prelude.{◌≡◌, ◌∷◌, [], IfOk, map};
+ghost use Rattle.std.specs.Prelude.{◌≡◌, ◌∷◌, ◌++◌, [], IfOk, OnOk, map};
 ghost use Rattle.castor_val.specs.Values.{value_of};
 ghost use Rattle.castor_alg.specs.Expression.{expr_value};
 ghost use Rattle.castor_alg.specs.Scopes.{bind, scopes_of, unbound};
@@ -147,8 +147,8 @@ fn hold_parts<'e, 'a>(
     let mut parts = Items::new(alloc);
     for r in rs {
         let part = hold_under(alloc, r, tables, env)?;
-        faults = faults.union(part.faults);
-        parts.push(part.held)?;
+        let more = add(&mut parts, part)?;
+        faults = faults.union(more);
     }
     Ok(HeldOut {
         held: Held::Parts(parts),
@@ -178,13 +178,32 @@ fn pair(alloc: Global, first: HeldOut, second: HeldOut) -> Result<HeldOut, Memor
     ensures { IfOk result (λ out. out ≡ parted (first ∷ second ∷ [])) }
 {
     let mut parts = Items::new(alloc);
-    let faults = first.faults.union(second.faults);
-    parts.push(first.held)?;
-    parts.push(second.held)?;
+    let faults = add(&mut parts, first)?;
+    let more = add(&mut parts, second)?;
     Ok(HeldOut {
         held: Held::Parts(parts),
-        faults,
+        faults: faults.union(more),
     })
+}
+
+// Puts what is stored behind the others, and gives its faults.
+fn add(kids: &mut Items<Held>, kid: HeldOut) -> Result<Faults, Memory>
+    ensures kids { OnOk result (kids.new ≡ kids.old ++ kid.held ∷ []) }
+    ensures faults { IfOk result (λ faults. faults ≡ kid.faults) }
+{
+    let HeldOut { held, faults } = kid;
+    kids.push(held)?;
+    Ok(faults)
+}
+
+// Puts a key and what is stored under it behind the others, and gives its faults.
+fn add_entry(entries: &mut Items<Entry>, key: Row, kid: HeldOut) -> Result<Faults, Memory>
+    ensures entries { OnOk result (entries.new ≡ entries.old ++ record { key = key; kid = kid.held } ∷ []) }
+    ensures faults { IfOk result (λ faults. faults ≡ kid.faults) }
+{
+    let HeldOut { held, faults } = kid;
+    entries.push(Entry { key, kid: held })?;
+    Ok(faults)
 }
 
 // What the body stores under each row of the source.
@@ -203,8 +222,8 @@ fn hold_rows<'e, 'a>(
     let mut kids = Items::new(alloc);
     for row in source.rows.as_slice() {
         let kid = hold_under_row(alloc, k, row, s, tables, env)?;
-        faults = faults.union(kid.faults);
-        kids.push(kid.held)?;
+        let more = add(&mut kids, kid)?;
+        faults = faults.union(more);
     }
     Ok(HeldOut {
         held: Held::Rows(kids),
@@ -228,11 +247,8 @@ fn hold_keys<'e, 'a>(
     let mut entries = Items::new(alloc);
     for key in rows.into_rows() {
         let kid = hold_under_row(alloc, k, &key, s, tables, env)?;
-        faults = faults.union(kid.faults);
-        entries.push(Entry {
-            key,
-            kid: kid.held,
-        })?;
+        let more = add_entry(&mut entries, key, kid)?;
+        faults = faults.union(more);
     }
     Ok(HeldOut {
         held: Held::Keyed(entries),

@@ -41,20 +41,13 @@ pub fn distinct_rows<'e, 'a>(
     ensures { IfOk result (λ out. out ≡ deduped (meaning r.now tables.now (scopes_of env.now) [])) }
 {
     let distinct = dedup(alloc, r)?;
-    Ok(rows_of(alloc, distinct, tables, env)?)
+    let out = source_rows(alloc, &distinct, tables, env);
+    let_go(distinct);
+    Ok(out?)
 }
 
-// What a relation gives that is let go then.
-fn rows_of<'e, 'a>(
-    alloc: Global,
-    q: Rel,
-    tables: &[Table],
-    env: &Env<'e, 'a>,
-) -> Result<Out, Memory>
-    ensures { IfOk result (λ out. out ≡ meaning q tables.now (scopes_of env.now) []) }
-{
-    Ok(source_rows(alloc, &q, tables, env)?)
-}
+// A tree is let go here, since a search for proofs is slow where it is let go beside other facts.
+fn let_go(_: Rel) {}
 
 fn dedup(alloc: Global, r: &Rel) -> Result<Rel, Memory>
     ensures { IfOk result (λ distinct. distinct ≡ Dedup r.now) }

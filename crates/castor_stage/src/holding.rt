@@ -1,6 +1,6 @@
 //! The data that is held for a query.
 
-ghost use Rattle.std.specs.Prelude.{◌≡◌, ◌∷◌, ◌++◌, [], IfOk, OnOk, map};
+ghost use Rattle.std.specs.Prelude.{◌≡◌, ◌∷◌, ◌++◌, [], IfOk, IsOkAnd, OnOk, map};
 ghost use Rattle.castor_val.specs.Values.{value_of};
 ghost use Rattle.castor_alg.specs.Expression.{expr_value};
 ghost use Rattle.castor_alg.specs.Scopes.{bind, scopes_of, unbound};
@@ -68,7 +68,11 @@ fn hold_under<'e, 'a>(
         Rel::Select(_, r) => Ok(hold_inner(alloc, r.get(), tables, env)?),
         Rel::Filter(_, r) => Ok(hold_inner(alloc, r.get(), tables, env)?),
         Rel::Join(_, _, _) => Ok(nothing(alloc)),
-        Rel::DepJoin(k, r, s) => Ok(hold_both(alloc, *k, r.get(), s.get(), tables, env)?),
+        Rel::DepJoin(k, r, s) => {
+            let first = hold_under(alloc, r.get(), tables, env);
+            let second = hold_unknown(alloc, *k, s.get(), tables, env);
+            Ok(pair(alloc, first, second)?)
+        }
         Rel::Group(_, _, r) => Ok(hold_inner(alloc, r.get(), tables, env)?),
         Rel::Order(_, r) => Ok(hold_inner(alloc, r.get(), tables, env)?),
         Rel::Dedup(r) => Ok(hold_inner(alloc, r.get(), tables, env)?),
@@ -156,25 +160,33 @@ fn hold_parts<'e, 'a>(
     })
 }
 
-// What the source and the body of a dependent join store. The row of its scope isn't known.
+// What the body of a dependent join stores. The row of its scope isn't known.
 #[cycle(hold)]
-fn hold_both<'e, 'a>(
+fn hold_unknown<'e, 'a>(
     alloc: Global,
     k: u32,
-    r: &'a Rel,
     s: &'a Rel,
     tables: &[Table],
     env: &Env<'e, 'a>,
 ) -> Result<HeldOut, Memory>
-    ensures { IfOk result (λ out. out ≡ parted (held_under r.now tables.now (scopes_of env.now) unbound [] ∷ held_under s.now tables.now (bind (scopes_of env.now) k []) unbound [] ∷ [])) }
+    ensures { IfOk result (λ out. out ≡ held_under s.now tables.now (bind (scopes_of env.now) k []) unbound []) }
 {
-    let first = hold_under(alloc, r, tables, env);
-    let second = hold_under_cells(alloc, k, &[], s, tables, env);
-    let (first, second) = both(first, second)?;
-    Ok(pair(alloc, first, second)?)
+    Ok(hold_under_cells(alloc, k, &[], &*s, tables, &*env)?)
 }
 
-fn pair(alloc: Global, first: HeldOut, second: HeldOut) -> Result<HeldOut, Memory>
+// What two operands store, where there was memory for both.
+fn pair(
+    alloc: Global,
+    first: Result<HeldOut, Memory>,
+    second: Result<HeldOut, Memory>,
+) -> Result<HeldOut, Memory>
+    ensures { IfOk result (λ out. IsOkAnd first (λ x. IsOkAnd second (λ y. out ≡ parted (x ∷ y ∷ [])))) }
+{
+    let (first, second) = both(first, second)?;
+    Ok(two_parts(alloc, first, second)?)
+}
+
+fn two_parts(alloc: Global, first: HeldOut, second: HeldOut) -> Result<HeldOut, Memory>
     ensures { IfOk result (λ out. out ≡ parted (first ∷ second ∷ [])) }
 {
     let mut parts = Items::new(alloc);

@@ -7,7 +7,7 @@ use Rattle.castor_alg.specs.declared.rel.Rel.{Rel}
 use Rattle.castor_alg.specs.Scopes.{bind, scopes_of, unbound}
 use Rattle.castor_stage.specs.HeldData.{held_under}
 use Rattle.castor_stage.proofs.ArmLaws.{concat_held, cross_held, dedup_held, depjoin_held, filter_held, group_held, hash_held, join_held, list_held, ord_held, order_held, scalar_held, select_held, table_held}
-use Rattle.castor_stage.proofs.LoopLaws.{keys_whole, parts_whole, rows_whole}
+use Rattle.castor_stage.proofs.LoopLaws.{keys_whole, pair_whole, parts_whole, rows_whole}
 use Rattle.castor_stage.proofs.holding.+hold.Goals as goal
 
 pub hold_under-returns-in-Table : goal.hold_under-returns-in-Table
@@ -40,8 +40,10 @@ hold_under-returns-in_ok-hold_inner-in-Dedup t c = dedup_held _ _ _ _ _ _ _ c.in
 pub hold_under-returns-in-Join : goal.hold_under-returns-in-Join
 hold_under-returns-in-Join t c = join_held _ _ _ _ _ _ _ _ c.in-Join.is c.nothing-in-Join.ensures
 
-pub hold_under-returns-in_ok-hold_both-in-DepJoin : goal.hold_under-returns-in_ok-hold_both-in-DepJoin
-hold_under-returns-in_ok-hold_both-in-DepJoin t c = depjoin_held _ _ _ _ _ _ _ _ _ _ c.in-DepJoin.is c.get-in-DepJoin.ensures c.get-in-DepJoin-2.ensures c.in_ok-hold_both-in-DepJoin.ensures
+pub hold_under-returns-in_ok-pair-in-DepJoin : goal.hold_under-returns-in_ok-pair-in-DepJoin
+hold_under-returns-in_ok-pair-in-DepJoin t c =
+    depjoin_held _ _ _ _ _ _ _ _ _ _ c.in-DepJoin.is c.get-in-DepJoin.ensures c.get-in-DepJoin-2.ensures
+    (pair_whole _ _ _ _ _ c.hold_under-first.ensures c.hold_unknown-second.ensures c.in_ok-pair-in-DepJoin.ensures)
 
 pub hold_under-returns-in_ok-hold_rows-in-List : goal.hold_under-returns-in_ok-hold_rows-in-List
 hold_under-returns-in_ok-hold_rows-in-List t c = list_held _ _ _ _ _ _ _ _ _ _ _ c.in-List.is c.get-in-List.ensures c.get-in-List-2.ensures c.in_ok-source-in-List.ensures c.in_ok-hold_rows-in-List.ensures
@@ -56,7 +58,7 @@ pub hold_parts-returns : goal.hold_parts-returns
 hold_parts-returns t c = parts_whole (λ (r : Rel). held_under r c.args.tables.now (scopes_of c.args.env.now) unbound []) c.args.rs.now c.loop-r.r-index _ _ _ c.loop-r-test.false c.loop-r.invariant.parts c.loop-r.invariant.faults refl
 
 pub hold_rows-returns : goal.hold_rows-returns
-hold_rows-returns t c = rows_whole (λ (a : Row). held_under c.args.s.now c.args.tables.now (bind (scopes_of c.args.env.now) c.args.k a) unbound []) c.args.source.now c.loop-row.row-index _ _ _ c.loop-row-test.false c.loop-row.invariant.kids c.loop-row.invariant.faults refl
+hold_rows-returns t c = rows_whole (λ (a : Row). held_under c.args.s.now c.args.tables.now (bind (scopes_of c.args.env.now) c.args.k a) unbound []) c.args.source.now _ c.loop-row.row-index _ _ _ c.as_slice-row-items.ensures c.loop-row-test.false c.loop-row.invariant.kids c.loop-row.invariant.faults refl
 
 pub hold_keys-returns : goal.hold_keys-returns
 hold_keys-returns t c = 

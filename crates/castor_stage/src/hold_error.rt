@@ -1,6 +1,6 @@
 //! Refusals to hold data.
 
-use castor_val::{Faults, Memory};
+use castor_val::Faults;
 
 /// Why no data is held for a query.
 #[derive(Clone, Copy, Debug, PartialEq, Eq)]
@@ -8,10 +8,4 @@ pub enum HoldError {
     /// Sources or scalars fault: the faults of all that are met.
     Faults(Faults),
     Memory,
-}
-
-impl From<Memory> for HoldError {
-    fn from(_: Memory) -> HoldError {
-        HoldError::Memory
-    }
 }

@@ -11,7 +11,7 @@ use crate::held_out::HeldOut;
 use crate::hold_error::HoldError;
 use crate::keys::key_rows;
 use crate::source::source_rows;
-use castor_alg::{Entry, Env, Expr, Held, Out, Rel, boxed, both, value};
+use castor_alg::{Entry, Env, Expr, Held, Out, Rel, both, boxed, value};
 use castor_val::{Cell, Faults, Memory, Row, Table, Value};
 use sqlite_items::Items;
 use std::alloc::Global;
@@ -101,11 +101,7 @@ fn nothing(alloc: Global) -> HeldOut
 }
 
 // The value of a scalar.
-fn hold_scalar<'e, 'a>(
-    alloc: Global,
-    e: &'a Expr,
-    env: &Env<'e, 'a>,
-) -> Result<HeldOut, Memory>
+fn hold_scalar<'e, 'a>(alloc: Global, e: &'a Expr, env: &Env<'e, 'a>) -> Result<HeldOut, Memory>
     ensures { IfOk result (λ out. out ≡ leaf (expr_value e.now [] (scopes_of env.now) [])) }
 {
     match value(e, &[], env, &[]) {

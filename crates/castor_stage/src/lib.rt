@@ -17,7 +17,7 @@ pub mod staging;
 #[cfg(test)]
 mod tests;
 
-pub use holding::hold;
 pub use hold_error::HoldError;
+pub use holding::hold;
 pub use stage_error::StageError;
 pub use staging::stage;

@@ -1,8 +1,9 @@
 //! What is held: each operator over small tables, and faults.
 
-use super::build::{MadeRel, bin, col, concat, cross, dedup, dep_join, filter, group, hash, int};
-use super::build::{join, list, one_table, ord, order, param, scalar, scope, select, share, table};
-use super::build::{texts, two_tables};
+use super::build::{
+    MadeRel, bin, col, concat, cross, dedup, dep_join, filter, group, hash, int, join, list,
+    one_table, ord, order, param, scalar, scope, select, share, table, texts, two_tables,
+};
 use crate::{HoldError, hold};
 use castor_alg::{Entry, Held, Op};
 use castor_val::{Faults, Row, Table, TextBuffer};
@@ -95,9 +96,28 @@ fn holds_scalars_and_parts(rt: HostRuntime) -> Result<(), Fail> {
     let alloc = rt.alloc();
     let tables = one_table(alloc, &[])?;
     assert!(rt; holds(alloc, scalar(int(7)), &tables, "7")?);
-    assert!(rt; holds(alloc, cross(alloc, scalar(int(1)), scalar(int(2))), &tables, "( 1 2)")?);
-    assert!(rt; holds(alloc, concat(alloc, scalar(int(1)), scalar(int(2))), &tables, "( 1 2)")?);
-    let under = dep_join(alloc, 0, scalar(int(1)), filter(alloc, scope(0), scalar(int(2))));
+    assert!(rt;
+        holds(
+            alloc,
+            cross(alloc, scalar(int(1)), scalar(int(2))),
+            &tables,
+            "( 1 2)"
+        )?
+    );
+    assert!(rt;
+        holds(
+            alloc,
+            concat(alloc, scalar(int(1)), scalar(int(2))),
+            &tables,
+            "( 1 2)"
+        )?
+    );
+    let under = dep_join(
+        alloc,
+        0,
+        scalar(int(1)),
+        filter(alloc, scope(0), scalar(int(2))),
+    );
     assert!(rt; holds(alloc, under, &tables, "( 1 <2>)")?);
     Ok(())
 }
@@ -117,9 +137,27 @@ fn holds_what_an_operand_stores(rt: HostRuntime) -> Result<(), Fail> {
 fn holds_a_child_for_each_row_of_a_list(rt: HostRuntime) -> Result<(), Fail> {
     let alloc = rt.alloc();
     let tables = two_tables(alloc, &[&[3], &[1], &[3]], &[])?;
-    assert!(rt; holds(alloc, list(alloc, 0, table(0), scalar(scope(0))), &tables, "[ 3 1 3]")?);
-    assert!(rt; holds(alloc, list(alloc, 0, table(1), scalar(scope(0))), &tables, "[]")?);
-    let beside = concat(alloc, list(alloc, 0, table(0), scalar(scope(0))), scalar(int(9)));
+    assert!(rt;
+        holds(
+            alloc,
+            list(alloc, 0, table(0), scalar(scope(0))),
+            &tables,
+            "[ 3 1 3]"
+        )?
+    );
+    assert!(rt;
+        holds(
+            alloc,
+            list(alloc, 0, table(1), scalar(scope(0))),
+            &tables,
+            "[]"
+        )?
+    );
+    let beside = concat(
+        alloc,
+        list(alloc, 0, table(0), scalar(scope(0))),
+        scalar(int(9)),
+    );
     assert!(rt; holds(alloc, beside, &tables, "( [ 3 1 3] 9)")?);
     Ok(())
 }
@@ -130,7 +168,13 @@ fn holds_each_key_once_and_ascending(rt: HostRuntime) -> Result<(), Fail> {
     let tables = one_table(alloc, &[&[3, 1], &[1, 2], &[3, 1], &[1, 1]])?;
     let index = hash(alloc, 0, table(0), scalar(scope(0)), param());
     assert!(rt; holds(alloc, index, &tables, "{ 1,1:1 1,2:1 3,1:3}")?);
-    let index = ord(alloc, 0, select(alloc, col(0), table(0)), scalar(scope(0)), param());
+    let index = ord(
+        alloc,
+        0,
+        select(alloc, col(0), table(0)),
+        scalar(scope(0)),
+        param(),
+    );
     assert!(rt; holds(alloc, index, &tables, "{ 1:1 3:3}")?);
     let names = texts(alloc, &["bob", "ann", "bob"])?;
     let index = hash(alloc, 0, table(0), scalar(scope(0)), param());
@@ -143,11 +187,22 @@ fn holds_indexes_in_one_another(rt: HostRuntime) -> Result<(), Fail> {
     let alloc = rt.alloc();
     let tables = one_table(alloc, &[&[2, 5], &[1, 7], &[2, 4]])?;
     let of_key = filter(alloc, bin(alloc, col(0), Op::Eq, scope(0)), table(0));
-    let second = ord(alloc, 1, select(alloc, col(1), of_key), scalar(scope(1)), param());
+    let second = ord(
+        alloc,
+        1,
+        select(alloc, col(1), of_key),
+        scalar(scope(1)),
+        param(),
+    );
     let index = hash(alloc, 0, select(alloc, col(0), table(0)), second, param());
     assert!(rt; holds(alloc, index, &tables, "{ 1:{ 7:7} 2:{ 4:4 5:5}}")?);
     let of_row = filter(alloc, bin(alloc, col(0), Op::Eq, scope(0)), table(0));
-    let lists = list(alloc, 0, table(0), list(alloc, 0, select(alloc, col(1), of_row), scalar(scope(0))));
+    let lists = list(
+        alloc,
+        0,
+        table(0),
+        list(alloc, 0, select(alloc, col(1), of_row), scalar(scope(0))),
+    );
     assert!(rt; holds(alloc, lists, &tables, "[ [ 5 4] [ 7] [ 5 4]]")?);
     Ok(())
 }
@@ -161,15 +216,32 @@ fn joins_the_faults_of_all_sources_and_scalars(rt: HostRuntime) -> Result<(), Fa
     let source = list(alloc, 0, dropping, scalar(scope(0)));
     assert!(rt; faults(alloc, source, &tables, Faults::DIVISION)?);
     let kept = select(alloc, share(alloc, 6, col(0)), table(1));
-    assert!(rt; holds(alloc, list(alloc, 0, kept, scalar(scope(0))), &tables, "[ 3]")?);
+    assert!(rt;
+        holds(
+            alloc,
+            list(alloc, 0, kept, scalar(scope(0))),
+            &tables,
+            "[ 3]"
+        )?
+    );
     let dropping = select(alloc, share(alloc, 6, col(0)), table(0));
     let overflow = scalar(bin(alloc, int(i64::MAX), Op::Add, int(1)));
-    let beside = cross(alloc, overflow, hash(alloc, 0, dropping, scalar(scope(0)), param()));
+    let beside = cross(
+        alloc,
+        overflow,
+        hash(alloc, 0, dropping, scalar(scope(0)), param()),
+    );
     let due = Faults::OVERFLOW.union(Faults::DIVISION);
     assert!(rt; faults(alloc, beside, &tables, due)?);
     let under = list(alloc, 0, table(0), scalar(share(alloc, 6, scope(0))));
     assert!(rt; faults(alloc, under, &tables, Faults::DIVISION)?);
-    let under = ord(alloc, 0, table(1), scalar(share(alloc, 6, scope(0))), param());
+    let under = ord(
+        alloc,
+        0,
+        table(1),
+        scalar(share(alloc, 6, scope(0))),
+        param(),
+    );
     assert!(rt; holds(alloc, under, &tables, "{ 2:3}")?);
     // What isn't met doesn't fault.
     let none = filter(alloc, bin(alloc, col(0), Op::Lt, int(0)), table(0));

@@ -61,6 +61,6 @@ pub hold_rows-returns : goal.hold_rows-returns
 hold_rows-returns t c = rows_whole (λ (a : Row). held_under c.args.s.now c.args.tables.now (bind (scopes_of c.args.env.now) c.args.k a) unbound []) c.args.source.now _ c.loop-row.row-index _ _ _ c.as_slice-row-items.ensures c.loop-row-test.false c.loop-row.invariant.kids c.loop-row.invariant.faults refl
 
 pub hold_keys-returns : goal.hold_keys-returns
-hold_keys-returns t c = 
+hold_keys-returns t c =
     let seen = YieldsList-end (YieldsList-from_vec c.into_rows-key-items.result.items (search rules) (search rules)) c.loop-key.yielded c.loop-key.key-iterator c.loop-key.yielded_by c.next.result c.next.new.self c.in-None.is c.next.ensures.steps in
     keys_whole (λ (a : Row). held_under c.args.s.now c.args.tables.now (bind (scopes_of c.args.env.now) c.args.k a) unbound []) c.args.keys c.loop-key.yielded _ _ _ (sym (map-id _) ∙ seen.0 ∙ c.into_rows-key-items.ensures) c.loop-key.invariant.entries c.loop-key.invariant.faults refl

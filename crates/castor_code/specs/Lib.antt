@@ -1,0 +1,11 @@
+pub mod Data
+pub mod Directories
+pub mod LayoutMeaning
+pub mod Pieces
+pub mod Readings
+pub mod Shapes
+pub mod Skips
+pub mod CodeForms
+pub mod CodeTyping
+pub mod Forms
+pub mod Reads

@@ -9,3 +9,7 @@ pub mod CodeForms
 pub mod CodeTyping
 pub mod Forms
 pub mod Reads
+pub mod CodeReadings
+pub mod Steps
+pub mod CodeAnswers
+pub mod Tags

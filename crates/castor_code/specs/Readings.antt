@@ -12,6 +12,7 @@ use Rattle.castor_dir.specs.Buckets.{bucket_count}
 use Rattle.castor_code.specs.declared.code.Range.{Range}
 use Rattle.castor_code.specs.Pieces.{Piece, within_int, within}
 use Rattle.castor_code.specs.Shapes.{leaf_of}
+use Rattle.castor_code.specs.Steps.{next, when, many}
 
 -- what is read from the front, with the bytes after it
 abbrev pub Read : Type 0 → Type 0
@@ -20,15 +21,6 @@ Read X = Option (X × List ℕ)
 -- how held data is read
 abbrev pub Reader : Type 0
 Reader = List ℕ → Read Held
-
--- what is read next, of what was read and the bytes after it
-abbrev pub next : {X Y : Type 0} → Read X → (X → List ℕ → Option Y) → Option Y
-next (Some x) f = f x.0 x.1
-next None f = None
-
--- a test, else nothing
-abbrev pub when : {X : Type 0} → Bool → X → Option X
-when b x = if b then Some x else None
 
 -- a number of a range
 abbrev pub ranged : Range → List ℕ → Read ℕ
@@ -56,11 +48,6 @@ parts_read ks bs = next (in_order ks bs) (λ hs rest. Some (Parts hs, rest))
 
 abbrev pub inner_read : Reader → Reader
 inner_read kid bs = next (kid bs) (λ h rest. Some (Inner h, rest))
-
--- so many things of one kind
-abbrev pub many : {X : Type 0} → ℕ → (List ℕ → Read X) → List ℕ → Read (List X)
-many zero one bs = Some ([], bs)
-many (suc n) one bs = next (one bs) (λ x rest. next (many n one rest) (λ xs more. Some (x ∷ xs, more)))
 
 -- the children take just the bytes that the body length says
 abbrev pub list_read : Range → Range → Reader → Reader

@@ -1,0 +1,20 @@
+-- What calls that read codes give.
+use Rattle.std.specs.Prelude.{◌≡◌, ◌⊎◌, ℕ, List, Option, Some, None, Result, MatchResult, ⊥, true}
+use Rattle.castor_code.specs.declared.code.Code.{Code}
+use Rattle.castor_code.specs.declared.decode.CodeError.{CodeError}
+use Rattle.castor_code.specs.declared.decode.CodeError.TheVariants.{NotCode, Memory}
+use Rattle.castor_code.specs.declared.decode.Input.{Input as Left}
+use Rattle.castor_code.specs.CodeForms.{code_bytes, is_well_formed}
+use Rattle.castor_code.specs.CodeReadings.{Input}
+
+-- what is left to read
+abbrev pub seen : Left → Input
+seen left = record { bytes = left.rest.now; nodes = left.nodes }
+
+-- what is read is what is due, and leaves what is left; else nothing is due, or there was no memory
+abbrev pub Takes : {T X : Type 0} → (T → X) → Option (X × Input) → Input → Result T CodeError → Type 0
+Takes view due left r = MatchResult r (λ t. due ≡ Some (view t, left)) (λ e. (e ≡ Memory) ⊎ ((e ≡ NotCode) × (due ≡ None)))
+
+-- the bytes are no well-formed code
+abbrev pub IsNoCode : List ℕ → Type 0
+IsNoCode bytes = (c : Code) → is_well_formed c ≡ true → bytes ≡ code_bytes c → ⊥

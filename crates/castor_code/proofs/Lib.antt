@@ -1,0 +1,10 @@
+pub mod BucketLaws
+pub mod CodeInduction
+pub mod DataLaws
+pub mod IndexLaws
+pub mod KeyLaws
+pub mod PartLaws
+pub mod RangeLaws
+pub mod ShapeLaws
+pub mod StepLaws
+pub mod ValueLaws

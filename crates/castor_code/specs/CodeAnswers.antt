@@ -1,9 +1,9 @@
 -- What calls that read codes give.
-use Rattle.std.specs.Prelude.{◌≡◌, ◌⊎◌, ℕ, List, Option, Some, None, Result, MatchResult, ⊥, true}
+use Rattle.std.specs.Prelude.{◌≡◌, ◌⊎◌, ℕ, List, Option, Some, None, Result, MatchResult, true}
 use Rattle.castor_code.specs.declared.code.Code.{Code}
-use Rattle.castor_code.specs.declared.decode.CodeError.{CodeError}
-use Rattle.castor_code.specs.declared.decode.CodeError.TheVariants.{NotCode, Memory}
-use Rattle.castor_code.specs.declared.decode.Input.{Input as Left}
+use Rattle.castor_code.specs.declared.decoding.CodeError.{CodeError}
+use Rattle.castor_code.specs.declared.decoding.CodeError.TheVariants.{NotCode, Memory}
+use Rattle.castor_code.specs.declared.decoding.Input.{Input as Left}
 use Rattle.castor_code.specs.CodeForms.{code_bytes, is_well_formed}
 use Rattle.castor_code.specs.CodeReadings.{Input}
 

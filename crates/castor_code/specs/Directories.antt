@@ -15,10 +15,18 @@ use Rattle.castor_code.specs.Pieces.{Piece, no_piece, both, one_after_other, sid
 abbrev pub entry_piece : List (Held → Piece) → (Held → Piece) → Entry → Piece
 entry_piece ks kid e = both (side_by_side ks (map Leaf e.key)) (kid e.kid)
 
+-- each is before all later ones
+abbrev pub rises : {X : Type 0} → (X → X → Bool) → List X → Bool
+rises before [] = true
+rises before (x ∷ xs) = list_all (before x) xs && rises before xs
+
+-- entries by their keys
+abbrev pub key_lt : Entry → Entry → Bool
+key_lt x y = row_lt x.key y.key
+
 -- each key is before all later ones, so that no two are equal
 abbrev pub ascending : List Entry → Bool
-ascending [] = true
-ascending (e ∷ es) = list_all (λ (later : Entry). row_lt e.key later.key) es && ascending es
+ascending es = rises key_lt es
 
 -- the bucket of an entry, of so many
 abbrev pub bucket_of : ℕ → Entry → ℕ

@@ -6,10 +6,11 @@ use Rattle.castor_val.specs.declared.value.Value.{Value}
 use Rattle.castor_val.specs.declared.value.Value.TheVariants.{Int, Bool as Truth, Text}
 use Rattle.castor_alg.specs.declared.held.Entry.{Entry}
 use Rattle.castor_alg.specs.declared.held.Held.{Held, Leaf, Parts, Rows, Keyed, Inner}
-use Rattle.castor_alg.specs.Sorting.{row_lt, sorted}
+use Rattle.castor_alg.specs.Sorting.{sorted}
 use Rattle.castor_fixed.specs.Fields.{width, number}
 use Rattle.castor_dir.specs.Buckets.{bucket_count}
 use Rattle.castor_code.specs.declared.code.Range.{Range}
+use Rattle.castor_code.specs.Directories.{key_lt}
 use Rattle.castor_code.specs.Pieces.{Piece, within_int, within}
 use Rattle.castor_code.specs.Shapes.{leaf_of}
 use Rattle.castor_code.specs.Steps.{next, when, many}
@@ -72,7 +73,7 @@ confirmed write h bs = when ((write h).fits && begins (write h).bytes bs) (h, dr
 -- an index, whose entries stand behind so many offsets and are put in the order of their keys
 abbrev pub index_read : Range → Range → (ℕ → ℕ) → (List ℕ → Read Entry) → (Held → Piece) → Reader
 index_read count body offsets one write bs =
-    next (ranged count bs) (λ n b. next (ranged body b) (λ len c. next (many n one (drop (offsets n * width body.hi) c)) (λ es rest. confirmed write (Keyed (sorted (λ x y. row_lt x.key y.key) es)) bs)))
+    next (ranged count bs) (λ n b. next (ranged body b) (λ len c. next (many n one (drop (offsets n * width body.hi) c)) (λ es rest. confirmed write (Keyed (sorted key_lt es)) bs)))
 
 -- the offsets of a hash index: one for each bucket, and one more
 abbrev pub hash_offsets : ℕ → ℕ

@@ -2,8 +2,8 @@
 #![tactic(auto)]
 
 pub mod code;
-pub mod decode;
-pub mod encode;
+pub mod decoding;
+pub mod encoding;
 pub mod fields;
 pub mod skips;
 pub mod tag;
@@ -11,6 +11,6 @@ pub mod tag;
 mod tests;
 
 pub use code::{Code, Range};
-pub use decode::{CodeError, decode};
-pub use encode::encode;
+pub use decoding::{CodeError, decode};
+pub use encoding::encode;
 pub use skips::skip_reads;

@@ -1,7 +1,8 @@
 //! How many fields are read to pass over data.
 
-ghost use Rattle.std.specs.Prelude.{◌≡◌, sum, map, true};
+ghost use Rattle.std.specs.Prelude.{◌≡◌, ◌-◌, ◌^◌, map, min, sum, true};
 ghost use Rattle.castor_code.specs.CodeForms.{is_well_formed};
+ghost use Rattle.castor_code.specs.Data.{DataIsTold, ReadsData};
 ghost use Rattle.castor_code.specs.Skips.{skip};
 
 use crate::code::Code;
@@ -10,13 +11,23 @@ use crate::code::Code;
 /// for a list, two for an index, and for other codes as many as for their kids. Linear in the code.
 pub fn skip_reads(code: &Code) -> u64
     requires { is_well_formed code.now ≡ true }
-    ensures { result ≡ skip code.now }
+    ensures value { result ≡ skip code.now }
+
+    // Data is read as what is held, and what is read is data.
+    ensures reads { ReadsData code.now }
+
+    // Data tells what is held and where it ends: no two held data have the same bytes, and no data is a
+    // proper front part of other data of the code.
+    ensures told { DataIsTold code.now }
 {
     skip_of(code)
 }
 
+/// The fields to be read, and 2^64 - 1 where there are more.
 #[cycle(skip)]
-fn skip_of(code: &Code) -> u64 {
+fn skip_of(code: &Code) -> u64
+    ensures { result ≡ min (skip code.now) (2 ^ 64 - 1) }
+{
     match code {
         Code::Int { .. } => 0,
         Code::Bool => 0,
@@ -36,7 +47,9 @@ fn skip_of(code: &Code) -> u64 {
 }
 
 #[cycle(skip)]
-fn skip_of_all(codes: &[Code]) -> u64 {
+fn skip_of_all(codes: &[Code]) -> u64
+    ensures { result ≡ min (sum (map skip codes.now)) (2 ^ 64 - 1) }
+{
     let mut reads: u64 = 0;
     for code in codes {
         reads = reads.saturating_add(skip_of(code));

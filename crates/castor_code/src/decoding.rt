@@ -4,7 +4,7 @@ ghost use Rattle.std.specs.Prelude.{◌≡◌, ◌⊎◌, MatchResult, true};
 ghost use Rattle.castor_code.specs.CodeAnswers.{IsNoCode, Takes, seen};
 ghost use Rattle.castor_code.specs.CodeForms.{CodesDiffer, code_bytes, is_well_formed};
 ghost use Rattle.castor_code.specs.CodeReadings.{number_in, tag_in, u8_in, u16_in, u32_in, int_in, bool_in, text_in};
-ghost use Rattle.castor_code.specs.declared.decode.CodeError.TheVariants as error;
+ghost use Rattle.castor_code.specs.declared.decoding.CodeError.TheVariants as error;
 
 mod codes;
 mod exprs;
@@ -30,7 +30,7 @@ pub enum CodeError {
 }
 
 impl From<Memory> for CodeError {
-    ghost use Rattle.castor_code.specs.declared.decode.CodeError.TheVariants.{Memory};
+    ghost use Rattle.castor_code.specs.declared.decoding.CodeError.TheVariants.{Memory};
 
     ghost from_gives = { λ _ e. e ≡ Memory };
 
@@ -40,7 +40,7 @@ impl From<Memory> for CodeError {
 }
 
 impl From<AllocError> for CodeError {
-    ghost use Rattle.castor_code.specs.declared.decode.CodeError.TheVariants.{Memory};
+    ghost use Rattle.castor_code.specs.declared.decoding.CodeError.TheVariants.{Memory};
 
     ghost from_gives = { λ _ e. e ≡ Memory };
 
@@ -50,7 +50,7 @@ impl From<AllocError> for CodeError {
 }
 
 impl<T: Drop> From<AllocFailed<T>> for CodeError {
-    ghost use Rattle.castor_code.specs.declared.decode.CodeError.TheVariants.{Memory};
+    ghost use Rattle.castor_code.specs.declared.decoding.CodeError.TheVariants.{Memory};
 
     ghost from_gives = { λ _ e. e ≡ Memory };
 

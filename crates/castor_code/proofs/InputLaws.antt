@@ -53,7 +53,7 @@ second_good levels f g good = record { sound = (and_parts _ _ good.sound).1; dep
 pub both_good : (levels : ℕ) (f g : Form) → Good levels f → Good levels g → Good levels (then_form f g)
 both_good levels f g first second = record { sound = and_from _ _ first.sound second.sound; depth = most _ _ _ first.depth second.depth }
 
-zero_and : (n : ℕ) → 0 + n ≡ n
+pub zero_and : (n : ℕ) → 0 + n ≡ n
 zero_and n = omega arith
 
 pub number_reads : (levels limit n : ℕ) → Reads levels (number_in limit) (number_form limit n) n

@@ -1,10 +1,17 @@
+pub mod BesideLaws
 pub mod BucketLaws
 pub mod CodeInduction
+pub mod CodeLaws
 pub mod DataLaws
+pub mod DecodeLaws
 pub mod IndexLaws
 pub mod KeyLaws
 pub mod PartLaws
 pub mod RangeLaws
 pub mod ShapeLaws
+pub mod ExprLaws
+pub mod InputLaws
+pub mod NodeLaws
+pub mod SkipLaws
 pub mod StepLaws
 pub mod ValueLaws

@@ -38,14 +38,14 @@ alone_writes levels n forms s u t x y same good told is =
     (subst (Good levels) form_is good, told ∙ ap (λ f. front f u) form_is ∙ ap (front (forms y)) parts.1)
 
 pub bound_reads : (levels : ℕ) (b : Bound) → Reads levels (bound_in (expr_in levels)) (bound_form b) b
-bound_reads levels Any s good = next_of _ _ _ _ (number_reads levels 255 0 s good)
+bound_reads levels Any s good = next_of (u8_in (front (u8_form 0) s)) (λ n t. bound_after n (expr_in levels) t) 0 s (number_reads levels 255 0 s good)
 bound_reads levels (Incl e) s good =
     ap (bound_in (expr_in levels)) (front_then (u8_form 1) (expr_form e) s)
-    ∙ next_of _ _ _ _ (number_reads levels 255 1 (front (expr_form e) s) (first_good levels (u8_form 1) (expr_form e) good))
+    ∙ next_of (u8_in (front (u8_form 1) (front (expr_form e) s))) (λ n t. bound_after n (expr_in levels) t) 1 (front (expr_form e) s) (number_reads levels 255 1 (front (expr_form e) s) (first_good levels (u8_form 1) (expr_form e) good))
     ∙ made_reads levels Incl (expr_in levels) (expr_form e) e (expr_reads e levels) s (second_good levels (u8_form 1) (expr_form e) good)
 bound_reads levels (Excl e) s good =
     ap (bound_in (expr_in levels)) (front_then (u8_form 2) (expr_form e) s)
-    ∙ next_of _ _ _ _ (number_reads levels 255 2 (front (expr_form e) s) (first_good levels (u8_form 2) (expr_form e) good))
+    ∙ next_of (u8_in (front (u8_form 2) (front (expr_form e) s))) (λ n t. bound_after n (expr_in levels) t) 2 (front (expr_form e) s) (number_reads levels 255 2 (front (expr_form e) s) (first_good levels (u8_form 2) (expr_form e) good))
     ∙ made_reads levels Excl (expr_in levels) (expr_form e) e (expr_reads e levels) s (second_good levels (u8_form 2) (expr_form e) good)
 
 bound_told : (levels n : ℕ) (s u t : Input) (b : Bound) → Good levels (u8_form n) → s ≡ front (u8_form n) u → bound_after n (expr_in levels) u ≡ Some (b, t) → Good levels (bound_form b) × (s ≡ front (bound_form b) t)
@@ -68,7 +68,7 @@ agg_at levels n at h s after good =
     ∙ made_reads levels h u32_in (u32_form at) at (number_reads levels 4294967295 at) s (second_good levels (u8_form n) (u32_form at) good)
 
 agg_reads : (levels : ℕ) (a : Agg) → Reads levels agg_in (agg_form a) a
-agg_reads levels Count s good = next_of _ _ _ _ (number_reads levels 255 0 s good)
+agg_reads levels Count s good = next_of (u8_in (front (u8_form 0) s)) (λ n t. agg_after n t) 0 s (number_reads levels 255 0 s good)
 agg_reads levels (Sum at) s good = agg_at levels 1 at Sum s (λ t. refl) good
 agg_reads levels (Min at) s good = agg_at levels 2 at Min s (λ t. refl) good
 agg_reads levels (Max at) s good = agg_at levels 3 at Max s (λ t. refl) good

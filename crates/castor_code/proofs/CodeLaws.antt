@@ -84,17 +84,17 @@ tag_above n kind false small is =
     let above : 1 ≤ n = ltb-false n 1 small in
     omega arith
 
-tag_is : (n : ℕ) (kind : CodeTag) → code_tag n ≡ Some kind → n ≡ tag_number kind
+pub tag_is : (n : ℕ) (kind : CodeTag) → code_tag n ≡ Some kind → n ≡ tag_number kind
 tag_is n kind is = tag_above n kind (nat_lt n 1) refl is
 
 -- which codes are of a single value
-abbrev Told : Code → Type 0
+abbrev pub Told : Code → Type 0
 Told c = (code_form c).scalar ≡ is_scalar c
 
 told_scalar : (f : CodeForm) (c : Code) (y : F.Code-F Code) → code_form c ≡ f → f.scalar ≡ is_scalar_in y → out-Code c ≡ y → Told c
 told_scalar f c y is same out = ap (λ (x : CodeForm). x.scalar) is ∙ same ∙ ap is_scalar_in (sym out)
 
-scalar_told : (c : Code) → Told c
+pub scalar_told : (c : Code) → Told c
 scalar_told = code_induction Told (record {
   int = λ lo hi. told_scalar _ _ (F.Int lo hi) (fold-Int CodeForm code_form_step lo hi) refl (ap out-Code (sym (rolls-Int lo hi)) ∙ out-roll-Code (F.Int lo hi));
   bool =  told_scalar _ _ (F.Bool) (fold-Bool CodeForm code_form_step ) refl (ap out-Code (sym (rolls-Bool )) ∙ out-roll-Code (F.Bool));
@@ -129,12 +129,12 @@ key_forms_of [] = refl
 key_forms_of (c ∷ cs) = ap (λ (fs : List Form). key_form_of c ∷ fs) (key_forms_of cs)
 
 -- a list of kids, by the forms of the kids themselves
-kids_form : (cs : List Code) → some_form form_in (map code_form cs) ≡ some_form form_of cs
+pub kids_form : (cs : List Code) → some_form form_in (map code_form cs) ≡ some_form form_of cs
 kids_form cs = ap (λ (fs : List Form). only_if (is_some_list (map code_form cs)) (then_form (u16_form (length (map code_form cs))) (in_turn fs))) (forms_of cs)
     ∙ ap (λ n. only_if (nat_lt 0 n) (then_form (u16_form n) (in_turn (map form_of cs)))) (length-map cs code_form)
 
 -- a code is read, of as many levels as may be
-abbrev CodeReads : Code → Type 0
+abbrev pub CodeReads : Code → Type 0
 CodeReads c = (levels : ℕ) → Reads levels (code_in levels) (form_of c) c
 
 node_reads : (c : Code) (kind : CodeTag) (parts : Form) (f : CodeForm) → code_form c ≡ f → f.form ≡ node (tag_number kind) parts → ((levels : ℕ) → Reads levels (λ s. code_after kind (code_in levels) (expr_in levels) s) parts c) → CodeReads c
@@ -166,14 +166,14 @@ keys_all_read levels [] = none_read
 keys_all_read levels (c ∷ cs) = more_read (key_code_reads levels c.0 c.1) (keys_all_read levels cs)
 
 -- how many codes a key has
-abbrev is_key_count : ℕ → Bool
+abbrev pub is_key_count : ℕ → Bool
 is_key_count n = nat_lt 0 n && nat_le n 4
 
 -- the codes of a key, the kid and the expressions, by the forms of the codes themselves
-abbrev key_parts : List Code → Code → List Expr → Form
+abbrev pub key_parts : List Code → Code → List Expr → Form
 key_parts key kid by = only_if (is_key_count (length key) && eqb (length by) (length key)) (then_form (u8_form (length key)) (then_form (in_turn (map key_form_of key)) (then_form (form_of kid) (in_turn (map expr_form by)))))
 
-key_form_is : (key : List Code) (kid : Code) (by : List Expr) → hash_key_form (map code_form key) (form_of kid) by ≡ key_parts key kid by
+pub key_form_is : (key : List Code) (kid : Code) (by : List Expr) → hash_key_form (map code_form key) (form_of kid) by ≡ key_parts key kid by
 key_form_is key kid by =
     ap (λ n. only_if (is_key_count n && eqb (length by) n) (then_form (u8_form n) (then_form (in_turn (map key_code_form (map code_form key))) (then_form (form_of kid) (in_turn (map expr_form by)))))) (length-map key code_form)
     ∙ ap (λ (fs : List Form). only_if (is_key_count (length key) && eqb (length by) (length key)) (then_form (u8_form (length key)) (then_form (in_turn fs) (then_form (form_of kid) (in_turn (map expr_form by)))))) (key_forms_of key)
@@ -209,19 +209,19 @@ hash_key_reads levels key kid by law s good =
     ∙ ap (λ o. next o (after_key levels)) (next_of _ (λ m t. many m (key_code_in (code_in levels)) t) _ _ first ∙ second)
     ∙ key_tail_reads levels ks kid by s (eqb-true _ _ counts.1) law (second_good levels middle tail behind)
 
-abbrev int_parts : ℤ → ℤ → Form
+abbrev pub int_parts : ℤ → ℤ → Form
 int_parts lo hi = only_if (at_most_int lo hi) (then_form (int_form lo) (int_form hi))
 
-abbrev text_parts : ℕ → ℕ → Form
+abbrev pub text_parts : ℕ → ℕ → Form
 text_parts min max = only_if (nat_le min max) (then_form (u16_form min) (u16_form max))
 
-abbrev list_parts : Range → Range → Code → Form
+abbrev pub list_parts : Range → Range → Code → Form
 list_parts count body c = then_form (ranges_form count body) (form_of c)
 
-abbrev hash_parts : Range → Range → List Code → Code → List Expr → Form
+abbrev pub hash_parts : Range → Range → List Code → Code → List Expr → Form
 hash_parts count body key c by = then_form (ranges_form count body) (key_parts key c by)
 
-abbrev ord_parts : Range → Range → Code → Code → Bound → Bound → Form
+abbrev pub ord_parts : Range → Range → Code → Code → Bound → Bound → Form
 ord_parts count body key c lo hi = then_form (ranges_form count body) (then_form (key_form_of key) (then_form (form_of c) (then_form (bound_form lo) (bound_form hi))))
 
 pub code_reads : (c : Code) → CodeReads c

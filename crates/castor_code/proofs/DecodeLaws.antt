@@ -1,5 +1,5 @@
 -- What is read as a code is written as that code, and no two codes share their bytes.
-use Rattle.std.proofs.Common.{◌≡◌, ◌∙◌, ℕ, zero, suc, ℤ, ◌+◌, ◌-◌, ◌≤◌, eqb, max, nat_le, List, [], ◌∷◌, ◌++◌, map, length, Bool, true, false, ◌&&◌, Option, Some, None, subst, ap, sym, refl, arith, append-nil}
+use Rattle.std.proofs.Common.{◌≡◌, ◌∙◌, ℕ, zero, suc, ℤ, ◌+◌, ◌-◌, ◌≤◌, eqb, max, nat_le, List, [], ◌∷◌, ◌++◌, ◌⊎◌, inl, inr, Result, Ok, Err, is_ok, MatchResult, map, length, Bool, true, false, ◌&&◌, Option, Some, None, subst, ap, sym, refl, arith, append-nil}
 use Rattle.std.proofs.lemmas.Bool.{and_parts, and_from, eq-eqb, eqb-true, le-leb, leb-true}
 use Rattle.std.proofs.lemmas.Option.{some_pair_parts, none-some, same_Some, cond_some}
 use Rattle.castor_alg.specs.declared.expr.Expr.{Expr}
@@ -11,6 +11,9 @@ use Rattle.castor_code.specs.declared.code.Code as C
 use Rattle.castor_code.specs.declared.code.Range.{Range}
 use Rattle.castor_code.specs.declared.tag.CodeTag.{CodeTag}
 use Rattle.castor_code.specs.declared.tag.CodeTag.TheVariants as tag
+use Rattle.castor_code.specs.declared.decoding.CodeError.{CodeError}
+use Rattle.castor_code.specs.declared.decoding.CodeError.TheVariants.{NotCode, Memory}
+use Rattle.castor_code.specs.CodeAnswers.{Takes, EndsWith, IsNoCode}
 use Rattle.castor_code.specs.Pieces.{at_most_int}
 use Rattle.castor_code.specs.Steps.{next, when, many, in_pair, made, passing}
 use Rattle.castor_code.specs.Forms.{Form, plain, then_form, in_turn, only_if, u8_form, u16_form, u32_form, int_form, node}
@@ -145,7 +148,7 @@ abbrev pub all_of : List ℕ → Input
 all_of bytes = record { bytes = bytes; nodes = 8192 }
 
 -- what is left of the nodes that a code might have
-spare : Code → Input
+abbrev pub spare : Code → Input
 spare c = record { bytes = []; nodes = 8192 - (form_of c).nodes }
 
 pub decoded : (c : Code) → is_well_formed c ≡ true → code_in 64 (all_of (code_bytes c)) ≡ Some (c, spare c)
@@ -168,6 +171,44 @@ encoded bytes c left is none =
     let few : nat_le (form_of c).nodes 8192 ≡ true = le-leb _ _ (omega arith) in
     let shallow : nat_le (form_of c).depth 64 ≡ true = le-leb _ _ all.0.depth in
     (and_from _ _ all.0.sound (and_from _ _ few shallow), same ∙ ap (λ (xs : List ℕ). code_bytes c ++ xs) none ∙ append-nil (code_bytes c))
+
+none_is : {X : Type 0} (o : Option X) (x : X) → o ≡ None → o ≡ Some x → ⊥
+none_is o x no is = none-some x (sym no ∙ is)
+
+-- where nothing is read there is no code
+not_read : (bytes : List ℕ) → code_in 64 (all_of bytes) ≡ None → IsNoCode bytes
+not_read bytes no c ok same = none_is (code_in 64 (all_of bytes)) (c, spare c) no (ap (λ bs. code_in 64 (all_of bs)) same ∙ decoded c ok)
+
+-- and none where something is left behind a code
+not_all : (bytes : List ℕ) (d : Code) (left : Input) → code_in 64 (all_of bytes) ≡ Some (d, left) → (left.bytes ≡ [] → ⊥) → IsNoCode bytes
+not_all bytes d left is more c ok same = more (ap (λ (x : Input). x.bytes) (some_pair_parts _ _ _ _ (sym is ∙ ap (λ bs. code_in 64 (all_of bs)) same ∙ decoded c ok)).1)
+
+abbrev Decodes : List ℕ → Result Code CodeError → Type 0
+Decodes bytes r = MatchResult r (λ c. (is_well_formed c ≡ true) × (bytes ≡ code_bytes c)) (λ e. (e ≡ Memory) ⊎ ((e ≡ NotCode) × IsNoCode bytes))
+
+refused : (bytes : List ℕ) (left : Input) (e : CodeError) → (e ≡ Memory) ⊎ ((e ≡ NotCode) × (code_in 64 (all_of bytes) ≡ None)) → (e ≡ Memory) ⊎ ((e ≡ NotCode) × IsNoCode bytes)
+refused bytes left e (inl memory) = inl memory
+refused bytes left e (inr no) = inr (no.0, not_read bytes no.1)
+
+ok_in : Code → Result Code CodeError → Code
+ok_in d (Ok c) = c
+ok_in d (Err e) = d
+
+err_in : CodeError → Result Code CodeError → CodeError
+err_in w (Ok c) = w
+err_in w (Err e) = e
+
+not_both : (c : Code) (e : CodeError) (r s : Result Code CodeError) → r ≡ Ok c → s ≡ Err e → r ≡ s → ⊥
+not_both c e r s ok err same = let no : true ≡ false = ap is_ok (sym ok ∙ same ∙ err) in absurd cc
+
+-- what is decoded, of what is read and of what is left then
+pub decodes : (bytes : List ℕ) (left : Input) (read r : Result Code CodeError) → Takes (λ c. c) (code_in 64 (all_of bytes)) left read → EndsWith read left.bytes r → Decodes bytes r
+decodes bytes left (Ok d) (Ok c) took ends = encoded bytes c left (took ∙ ap (λ x. got x left) (ap (ok_in d) ends.0)) ends.1
+decodes bytes left (Err w) (Ok c) took ends = absurd (not_both c w (Ok c) (Err w) refl refl (sym ends.0))
+decodes bytes left (Ok d) (Err e) took (inl same) = absurd (not_both d e (Ok d) (Err e) refl refl same)
+decodes bytes left (Err w) (Err e) took (inl same) = subst (λ x. (x ≡ Memory) ⊎ ((x ≡ NotCode) × IsNoCode bytes)) (ap (err_in w) same) (refused bytes left w took)
+decodes bytes left (Ok d) (Err e) took (inr more) = inr (more.0, not_all bytes d left took more.1.1)
+decodes bytes left (Err w) (Err e) took (inr more) = let no : false ≡ true = more.1.0 in absurd cc
 
 -- two well-formed codes never share their bytes
 pub codes_differ : CodesDiffer

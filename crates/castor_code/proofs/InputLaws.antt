@@ -103,6 +103,7 @@ module _ {X Y : Type 0} (levels : ℕ) where
         fore.1 ∙ ap (λ (f : Form). front f b.left) form_is ∙ ap (front (forms y)) parts.1,
       )
 
+module _ {X : Type 0} (levels : ℕ) where
   pub passing_reads : (test : X → Bool) (one : Parse X) (f : Form) (x : X) → Reads levels one f x → Reads levels (passing test one) (only_if (test x) f) x
   passing_reads test one f x law s good =
       let parts = and_parts _ _ good.sound in

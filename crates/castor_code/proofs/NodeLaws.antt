@@ -2,7 +2,7 @@
 use Rattle.std.proofs.Common.{◌≡◌, ◌∙◌, ℕ, zero, suc, ℤ, ◌+◌, ◌-◌, ◌^◌, ◌<◌, ◌≤◌, nat_lt, nat_le, List, [], ◌∷◌, ◌++◌, take, drop, length, Bool, true, false, ◌&&◌, if◌then◌else◌, Option, Some, None, subst, ap, sym, refl, arith, append_assoc, length-append}
 use Rattle.std.specs.Int.{cast_signed, cast_unsigned, w64}
 use Rattle.std.specs.Str.{is_utf8}
-use Rattle.std.proofs.Math.Facts.{Fits-of_z, sfits_to_z}
+use Rattle.std.proofs.Math.Facts.{Fits-lt-pow, Fits-of_lt, Fits-of_z, sfits_to_z}
 use Rattle.std.proofs.lemmas.Bool.{and_parts, and_from, le-leb, leb-true}
 use Rattle.std.proofs.lemmas.Int.{to_z-of_z, of_z-to_z}
 use Rattle.std.proofs.lemmas.List.{take_at, drop_at, take-append-drop, length-take-le}
@@ -55,7 +55,7 @@ module _ {X Y : Type 0} (levels : ℕ) where
 pub int_reads : (levels : ℕ) (z : ℤ) → Reads levels int_in (int_form z) z
 int_reads levels z s good =
     let fits = fits_from_is_int z good.sound in
-    let below : cast_unsigned w64 z < 2 ^ 64 = Fits-of_z fits in
+    let below : cast_unsigned w64 z < 2 ^ 64 = Fits-lt-pow (Fits-of_z fits) in
     let small : nat_le (cast_unsigned w64 z) 18446744073709551615 ≡ true = le-leb _ _ (omega arith) in
     next_of _ _ _ _ (number_reads levels 18446744073709551615 (cast_unsigned w64 z) s (record { sound = small; depth = good.depth }))
     ∙ ap (λ x. got x s) (to_z-of_z w64 z fits)
@@ -68,7 +68,7 @@ int_writes levels s t z is =
     let small = leb-true b.first 18446744073709551615 all.0.sound in
     let below : b.first < 2 ^ 64 = omega arith in
     let back : cast_unsigned w64 z ≡ b.first = ap (cast_unsigned w64) (sym parts.0) ∙ of_z-to_z w64 b.first below in (
-      record { sound = ap is_int (sym parts.0) ∙ is_int-from_fits (cast_signed w64 b.first) (sfits_to_z below); depth = omega arith },
+      record { sound = ap is_int (sym parts.0) ∙ is_int-from_fits (cast_signed w64 b.first) (sfits_to_z (Fits-of_lt below)); depth = omega arith },
       all.1 ∙ ap (λ n. front (u64_form n) b.left) (sym back) ∙ ap (front (int_form z)) parts.1,
     )
 

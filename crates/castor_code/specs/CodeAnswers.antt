@@ -1,5 +1,5 @@
 -- What calls that read codes give.
-use Rattle.std.specs.Prelude.{◌≡◌, ◌⊎◌, ℕ, List, Option, Some, None, Result, MatchResult, true}
+use Rattle.std.specs.Prelude.{◌≡◌, ◌⊎◌, ℕ, List, [], Option, Some, None, Result, Ok, Err, is_ok, MatchResult, true}
 use Rattle.castor_code.specs.declared.code.Code.{Code}
 use Rattle.castor_code.specs.declared.decoding.CodeError.{CodeError}
 use Rattle.castor_code.specs.declared.decoding.CodeError.TheVariants.{NotCode, Memory}
@@ -18,3 +18,7 @@ Takes view due left r = MatchResult r (λ t. due ≡ Some (view t, left)) (λ e.
 -- the bytes are no well-formed code
 abbrev pub IsNoCode : List ℕ → Type 0
 IsNoCode bytes = (c : Code) → is_well_formed c ≡ true → bytes ≡ code_bytes c → ⊥
+
+-- the code that was read, where nothing is left behind it; else no code
+abbrev pub EndsWith : Result Code CodeError → List ℕ → Result Code CodeError → Type 0
+EndsWith read rest r = MatchResult r (λ c. (read ≡ Ok c) × (rest ≡ [])) (λ e. (read ≡ Err e) ⊎ ((e ≡ NotCode) × ((is_ok read ≡ true) × (rest ≡ [] → ⊥))))

@@ -1,9 +1,8 @@
 //! Codes from their bytes.
 
 ghost use Rattle.std.specs.Prelude.{◌≡◌, ◌⊎◌, MatchResult, true};
-ghost use Rattle.castor_code.specs.CodeAnswers.{IsNoCode, Takes, seen};
+ghost use Rattle.castor_code.specs.CodeAnswers.{EndsWith, IsNoCode};
 ghost use Rattle.castor_code.specs.CodeForms.{CodesDiffer, code_bytes, is_well_formed};
-ghost use Rattle.castor_code.specs.CodeReadings.{number_in, tag_in, u8_in, u16_in, u32_in, int_in, bool_in, text_in};
 ghost use Rattle.castor_code.specs.declared.decoding.CodeError.TheVariants as error;
 
 mod codes;
@@ -84,11 +83,17 @@ pub fn decode(alloc: Global, bytes: &[u8]) -> Result<Code, CodeError>
 }
 
 /// The code that was read, where nothing is left behind it.
-fn at_end(code: Result<Code, CodeError>, rest: &[u8]) -> Result<Code, CodeError> {
-    let code = code?;
-    if rest.is_empty() {
-        Ok(code)
-    } else {
-        Err(CodeError::NotCode)
+fn at_end(code: Result<Code, CodeError>, rest: &[u8]) -> Result<Code, CodeError>
+    ensures { EndsWith code rest.now result }
+{
+    match code {
+        Ok(code) => {
+            if rest.is_empty() {
+                Ok(code)
+            } else {
+                Err(CodeError::NotCode)
+            }
+        }
+        Err(why) => Err(why),
     }
 }

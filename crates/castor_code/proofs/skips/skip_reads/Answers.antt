@@ -1,5 +1,4 @@
 use Rattle.castor_code.proofs.DataLaws.{reads_data, data_is_told}
-use Rattle.castor_code.proofs.BesideLaws.{group_writes}
 use Rattle.castor_code.proofs.SkipLaws.{whole_skip}
 use Rattle.castor_code.proofs.skips.skip_reads.Goals as goal
 

@@ -6,12 +6,15 @@ pub mod DataLaws
 pub mod DecodeLaws
 pub mod IndexLaws
 pub mod KeyLaws
+pub mod LoopLaws
 pub mod PartLaws
+pub mod PutLaws
 pub mod RangeLaws
 pub mod ShapeLaws
 pub mod ExprLaws
 pub mod InputLaws
 pub mod NodeLaws
+pub mod NumberLaws
 pub mod SkipLaws
 pub mod StepLaws
 pub mod ValueLaws

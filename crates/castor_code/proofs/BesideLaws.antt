@@ -145,8 +145,8 @@ has_one x = is_some_list x.0 || is_some_list x.1
 pub group_reads : (levels : ℕ) (ks : List ℕ) (aggs : List Agg) → Reads levels group_in (group_form ks aggs) (ks, aggs)
 group_reads levels ks aggs = passing_reads levels has_one lists_in (then_form (list_form u32_form ks) (list_form agg_form aggs)) (ks, aggs)
     (pair_reads levels (list_in u32_in) (list_in agg_in) (list_form u32_form ks) (list_form agg_form aggs) ks aggs
-      (list_reads levels u32_in u32_form ks (all_read levels u32_in u32_form (number_reads levels 4294967295) ks))
-      (list_reads levels agg_in agg_form aggs (all_read levels agg_in agg_form (agg_reads levels) aggs)))
+    (list_reads levels u32_in u32_form ks (all_read levels u32_in u32_form (number_reads levels 4294967295) ks))
+    (list_reads levels agg_in agg_form aggs (all_read levels agg_in agg_form (agg_reads levels) aggs)))
 
 pub group_writes : (levels : ℕ) → Writes levels group_in (λ (x : List ℕ × List Agg). group_form x.0 x.1)
 group_writes levels = passing_writes levels has_one lists_in (λ (x : List ℕ × List Agg). then_form (list_form u32_form x.0) (list_form agg_form x.1))

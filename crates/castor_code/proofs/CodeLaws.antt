@@ -97,7 +97,7 @@ told_scalar f c y is same out = ap (λ (x : CodeForm). x.scalar) is ∙ same ∙
 pub scalar_told : (c : Code) → Told c
 scalar_told = code_induction Told (record {
   int = λ lo hi. told_scalar _ _ (F.Int lo hi) (fold-Int CodeForm code_form_step lo hi) refl (ap out-Code (sym (rolls-Int lo hi)) ∙ out-roll-Code (F.Int lo hi));
-  bool =  told_scalar _ _ (F.Bool) (fold-Bool CodeForm code_form_step ) refl (ap out-Code (sym (rolls-Bool )) ∙ out-roll-Code (F.Bool));
+  bool = told_scalar _ _ (F.Bool) (fold-Bool CodeForm code_form_step) refl (ap out-Code (sym (rolls-Bool)) ∙ out-roll-Code (F.Bool));
   text = λ min max. told_scalar _ _ (F.Text min max) (fold-Text CodeForm code_form_step min max) refl (ap out-Code (sym (rolls-Text min max)) ∙ out-roll-Code (F.Text min max));
   cross = λ cs. told_scalar _ _ (F.Cross (codes cs)) (fold-Cross CodeForm code_form_step (codes cs)) refl (ap out-Code (sym (rolls-Cross (codes cs))) ∙ out-roll-Code (F.Cross (codes cs)));
   concat = λ cs. told_scalar _ _ (F.Concat (codes cs)) (fold-Concat CodeForm code_form_step (codes cs)) refl (ap out-Code (sym (rolls-Concat (codes cs))) ∙ out-roll-Code (F.Concat (codes cs)));
@@ -148,7 +148,7 @@ node_reads c kind parts f folded has law = by
     by (suc levels) s good =
         ap (λ (g : Form). code_in (suc levels) (front g s)) is
         ∙ next_of (told code_tag tag_in (front (node (tag_number kind) parts) s)) (λ k t. code_after k (code_in levels) (expr_in levels) t) kind (front parts s)
-            (next_of _ _ _ _ (tag_reads (tag_number kind) parts s (tag_small kind)) ∙ ap (λ (o : Option CodeTag). with_left o (front parts s)) (tag_told kind))
+        (next_of _ _ _ _ (tag_reads (tag_number kind) parts s (tag_small kind)) ∙ ap (λ (o : Option CodeTag). with_left o (front parts s)) (tag_told kind))
         ∙ law levels s (parts_good levels (tag_number kind) parts (subst (Good (suc levels)) is good))
 
 kids_read : (levels : ℕ) (cs : List (With CodeReads)) → AllRead levels (code_in levels) form_of (codes cs)
@@ -227,32 +227,32 @@ ord_parts count body key c lo hi = then_form (ranges_form count body) (then_form
 pub code_reads : (c : Code) → CodeReads c
 code_reads = code_induction CodeReads (record {
   int = λ lo hi. node_reads _ tag.Int (int_parts lo hi) _ (fold-Int CodeForm code_form_step lo hi) refl (λ levels. made_reads levels (λ (x : ℤ × ℤ). C.Int x.0 x.1) (passing (λ (x : ℤ × ℤ). at_most_int x.0 x.1) (in_pair int_in int_in)) (int_parts lo hi) (lo, hi)
-    (passing_reads levels (λ (x : ℤ × ℤ). at_most_int x.0 x.1) (in_pair int_in int_in) (then_form (int_form lo) (int_form hi)) (lo, hi) (pair_reads levels int_in int_in (int_form lo) (int_form hi) lo hi (int_reads levels lo) (int_reads levels hi))));
+      (passing_reads levels (λ (x : ℤ × ℤ). at_most_int x.0 x.1) (in_pair int_in int_in) (then_form (int_form lo) (int_form hi)) (lo, hi) (pair_reads levels int_in int_in (int_form lo) (int_form hi) lo hi (int_reads levels lo) (int_reads levels hi))));
   bool = node_reads _ tag.Bool (plain true []) _ (fold-Bool CodeForm code_form_step) refl (λ levels s good. ap (got C.Bool) (same_input _ _ refl (zero_and s.nodes)));
   text = λ min max. node_reads _ tag.Text (text_parts min max) _ (fold-Text CodeForm code_form_step min max) refl (λ levels. made_reads levels (λ (x : ℕ × ℕ). C.Text x.0 x.1) (passing (λ (x : ℕ × ℕ). nat_le x.0 x.1) (in_pair u16_in u16_in)) (text_parts min max) (min, max)
-    (passing_reads levels (λ (x : ℕ × ℕ). nat_le x.0 x.1) (in_pair u16_in u16_in) (then_form (u16_form min) (u16_form max)) (min, max) (pair_reads levels u16_in u16_in (u16_form min) (u16_form max) min max (number_reads levels 65535 min) (number_reads levels 65535 max))));
+      (passing_reads levels (λ (x : ℕ × ℕ). nat_le x.0 x.1) (in_pair u16_in u16_in) (then_form (u16_form min) (u16_form max)) (min, max) (pair_reads levels u16_in u16_in (u16_form min) (u16_form max) min max (number_reads levels 65535 min) (number_reads levels 65535 max))));
   cross = λ cs. node_reads _ tag.Cross (some_form form_of (codes cs)) _ (fold-Cross CodeForm code_form_step (codes cs)) (ap (node 4) (kids_form (codes cs))) (λ levels. made_reads levels C.Cross (some_in (code_in levels)) (some_form form_of (codes cs)) (codes cs) (some_reads levels (code_in levels) form_of (codes cs) (kids_read levels cs)));
   concat = λ cs. node_reads _ tag.Concat (some_form form_of (codes cs)) _ (fold-Concat CodeForm code_form_step (codes cs)) (ap (node 5) (kids_form (codes cs))) (λ levels. made_reads levels C.Concat (some_in (code_in levels)) (some_form form_of (codes cs)) (codes cs) (some_reads levels (code_in levels) form_of (codes cs) (kids_read levels cs)));
   list = λ count body c law. node_reads _ tag.List (list_parts count body c) _ (fold-List CodeForm code_form_step count body c) refl (λ levels. made_reads levels (λ (x : (Range × Range) × Code). C.List x.0.0 x.0.1 x.1) (in_pair ranges_in (code_in levels)) (list_parts count body c) ((count, body), c)
-    (pair_reads levels ranges_in (code_in levels) (ranges_form count body) (form_of c) (count, body) c (ranges_reads levels count body) (law levels)));
+      (pair_reads levels ranges_in (code_in levels) (ranges_form count body) (form_of c) (count, body) c (ranges_reads levels count body) (law levels)));
   hash = λ count body key c es law. node_reads _ tag.Hash (hash_parts count body (codes key) c es) _ (fold-Hash CodeForm code_form_step count body (codes key) c es) (ap (λ (f : Form). node 7 (then_form (ranges_form count body) f)) (key_form_is (codes key) c es)) (λ levels.
-    made_reads levels (λ (x : (Range × Range) × (List Code × (Code × List Expr))). C.Hash x.0.0 x.0.1 x.1.0 x.1.1.0 x.1.1.1) (in_pair ranges_in (hash_key_in (code_in levels) (expr_in levels))) (hash_parts count body (codes key) c es) ((count, body), (codes key, (c, es)))
+      made_reads levels (λ (x : (Range × Range) × (List Code × (Code × List Expr))). C.Hash x.0.0 x.0.1 x.1.0 x.1.1.0 x.1.1.1) (in_pair ranges_in (hash_key_in (code_in levels) (expr_in levels))) (hash_parts count body (codes key) c es) ((count, body), (codes key, (c, es)))
       (pair_reads levels ranges_in (hash_key_in (code_in levels) (expr_in levels)) (ranges_form count body) (key_parts (codes key) c es) (count, body) (codes key, (c, es)) (ranges_reads levels count body) (hash_key_reads levels key c es law)));
   ordered = λ count body key c lo hi first law. node_reads _ tag.Ord (ord_parts count body key c lo hi) _ (fold-Ord CodeForm code_form_step count body key c lo hi) refl (λ levels.
-    made_reads levels (λ (x : (Range × Range) × (Code × (Code × (Bound × Bound)))). C.Ord x.0.0 x.0.1 x.1.0 x.1.1.0 x.1.1.1.0 x.1.1.1.1) (in_pair ranges_in (in_pair (key_code_in (code_in levels)) (in_pair (code_in levels) (in_pair (bound_in (expr_in levels)) (bound_in (expr_in levels)))))) (ord_parts count body key c lo hi) ((count, body), (key, (c, (lo, hi))))
+      made_reads levels (λ (x : (Range × Range) × (Code × (Code × (Bound × Bound)))). C.Ord x.0.0 x.0.1 x.1.0 x.1.1.0 x.1.1.1.0 x.1.1.1.1) (in_pair ranges_in (in_pair (key_code_in (code_in levels)) (in_pair (code_in levels) (in_pair (bound_in (expr_in levels)) (bound_in (expr_in levels)))))) (ord_parts count body key c lo hi) ((count, body), (key, (c, (lo, hi))))
       (pair_reads levels ranges_in (in_pair (key_code_in (code_in levels)) (in_pair (code_in levels) (in_pair (bound_in (expr_in levels)) (bound_in (expr_in levels))))) (ranges_form count body) (then_form (key_form_of key) (then_form (form_of c) (then_form (bound_form lo) (bound_form hi)))) (count, body) (key, (c, (lo, hi))) (ranges_reads levels count body)
-        (pair_reads levels (key_code_in (code_in levels)) (in_pair (code_in levels) (in_pair (bound_in (expr_in levels)) (bound_in (expr_in levels)))) (key_form_of key) (then_form (form_of c) (then_form (bound_form lo) (bound_form hi))) key (c, (lo, hi)) (key_code_reads levels key first)
-          (pair_reads levels (code_in levels) (in_pair (bound_in (expr_in levels)) (bound_in (expr_in levels))) (form_of c) (then_form (bound_form lo) (bound_form hi)) c (lo, hi) (law levels)
-            (pair_reads levels (bound_in (expr_in levels)) (bound_in (expr_in levels)) (bound_form lo) (bound_form hi) lo hi (bound_reads levels lo) (bound_reads levels hi))))));
+      (pair_reads levels (key_code_in (code_in levels)) (in_pair (code_in levels) (in_pair (bound_in (expr_in levels)) (bound_in (expr_in levels)))) (key_form_of key) (then_form (form_of c) (then_form (bound_form lo) (bound_form hi))) key (c, (lo, hi)) (key_code_reads levels key first)
+      (pair_reads levels (code_in levels) (in_pair (bound_in (expr_in levels)) (bound_in (expr_in levels))) (form_of c) (then_form (bound_form lo) (bound_form hi)) c (lo, hi) (law levels)
+      (pair_reads levels (bound_in (expr_in levels)) (bound_in (expr_in levels)) (bound_form lo) (bound_form hi) lo hi (bound_reads levels lo) (bound_reads levels hi))))));
   select = λ es c law. node_reads _ tag.Select (then_form (some_form expr_form es) (form_of c)) _ (fold-Select CodeForm code_form_step es c) refl (λ levels. made_reads levels (λ (x : List Expr × Code). C.Select x.0 x.1) (in_pair (some_in (expr_in levels)) (code_in levels)) (then_form (some_form expr_form es) (form_of c)) (es, c)
-    (pair_reads levels (some_in (expr_in levels)) (code_in levels) (some_form expr_form es) (form_of c) es c (some_reads levels (expr_in levels) expr_form es (exprs_read levels es)) (law levels)));
+      (pair_reads levels (some_in (expr_in levels)) (code_in levels) (some_form expr_form es) (form_of c) es c (some_reads levels (expr_in levels) expr_form es (exprs_read levels es)) (law levels)));
   filter = λ e c law. node_reads _ tag.Filter (then_form (expr_form e) (form_of c)) _ (fold-Filter CodeForm code_form_step e c) refl (λ levels. made_reads levels (λ (x : Expr × Code). C.Filter x.0 x.1) (in_pair (expr_in levels) (code_in levels)) (then_form (expr_form e) (form_of c)) (e, c)
-    (pair_reads levels (expr_in levels) (code_in levels) (expr_form e) (form_of c) e c (expr_reads e levels) (law levels)));
+      (pair_reads levels (expr_in levels) (code_in levels) (expr_form e) (form_of c) e c (expr_reads e levels) (law levels)));
   dep = λ j c d first second. node_reads _ tag.Dep (then_form (u32_form j) (then_form (form_of c) (form_of d))) _ (fold-Dep CodeForm code_form_step j c d) refl (λ levels. made_reads levels (λ (x : ℕ × (Code × Code)). C.Dep x.0 x.1.0 x.1.1) (in_pair u32_in (in_pair (code_in levels) (code_in levels))) (then_form (u32_form j) (then_form (form_of c) (form_of d))) (j, (c, d))
-    (pair_reads levels u32_in (in_pair (code_in levels) (code_in levels)) (u32_form j) (then_form (form_of c) (form_of d)) j (c, d) (number_reads levels 4294967295 j) (pair_reads levels (code_in levels) (code_in levels) (form_of c) (form_of d) c d (first levels) (second levels))));
+      (pair_reads levels u32_in (in_pair (code_in levels) (code_in levels)) (u32_form j) (then_form (form_of c) (form_of d)) j (c, d) (number_reads levels 4294967295 j) (pair_reads levels (code_in levels) (code_in levels) (form_of c) (form_of d) c d (first levels) (second levels))));
   group = λ ks aggs c law. node_reads _ tag.Group (then_form (group_form ks aggs) (form_of c)) _ (fold-Group CodeForm code_form_step ks aggs c) refl (λ levels. made_reads levels (λ (x : (List ℕ × List Agg) × Code). C.Group x.0.0 x.0.1 x.1) (in_pair group_in (code_in levels)) (then_form (group_form ks aggs) (form_of c)) ((ks, aggs), c)
-    (pair_reads levels group_in (code_in levels) (group_form ks aggs) (form_of c) (ks, aggs) c (group_reads levels ks aggs) (law levels)));
+      (pair_reads levels group_in (code_in levels) (group_form ks aggs) (form_of c) (ks, aggs) c (group_reads levels ks aggs) (law levels)));
   order = λ ks c law. node_reads _ tag.Order (then_form (some_form key_form ks) (form_of c)) _ (fold-Order CodeForm code_form_step ks c) refl (λ levels. made_reads levels (λ (x : List Key × Code). C.Order x.0 x.1) (in_pair (some_in key_in) (code_in levels)) (then_form (some_form key_form ks) (form_of c)) (ks, c)
-    (pair_reads levels (some_in key_in) (code_in levels) (some_form key_form ks) (form_of c) ks c (some_reads levels key_in key_form ks (keys_read levels ks)) (law levels)));
+      (pair_reads levels (some_in key_in) (code_in levels) (some_form key_form ks) (form_of c) ks c (some_reads levels key_in key_form ks (keys_read levels ks)) (law levels)));
   dedup = λ c law. node_reads _ tag.Dedup (form_of c) _ (fold-Dedup CodeForm code_form_step c) refl (λ levels. made_reads levels C.Dedup (code_in levels) (form_of c) c (law levels));
 })

@@ -101,35 +101,35 @@ module _ (levels : ℕ) (law : Writes levels (code_in levels) form_of) where
   -- the node behind a tag is written as its parts
   kind_writes : (kind : CodeTag) (s t : Input) (c : Code) → code_after kind one other s ≡ Some (c, t) → Node levels (tag_number kind) form_of s t c
   kind_writes tag.Int s t c is = made_node levels 1 form_of (λ (x : ℤ × ℤ). C.Int x.0 x.1) (passing (λ (x : ℤ × ℤ). at_most_int x.0 x.1) (in_pair int_in int_in)) (λ (x : ℤ × ℤ). int_parts x.0 x.1) (λ x. folded_form _ _ (fold-Int CodeForm code_form_step x.0 x.1))
-    (passing_writes levels (λ (x : ℤ × ℤ). at_most_int x.0 x.1) (in_pair int_in int_in) (λ (x : ℤ × ℤ). then_form (int_form x.0) (int_form x.1)) (pair_writes levels int_in int_in int_form int_form (int_writes levels) (int_writes levels))) s t c is
+      (passing_writes levels (λ (x : ℤ × ℤ). at_most_int x.0 x.1) (in_pair int_in int_in) (λ (x : ℤ × ℤ). then_form (int_form x.0) (int_form x.1)) (pair_writes levels int_in int_in int_form int_form (int_writes levels) (int_writes levels))) s t c is
   kind_writes tag.Bool s t c is =
       let parts = some_pair_parts _ _ _ _ is in
       record { parts = plain true []; is = ap form_of (sym parts.0) ∙ folded_form _ _ (fold-Bool CodeForm code_form_step); good = record { sound = refl; depth = omega arith }; left = parts.1 ∙ same_input _ _ refl (sym (zero_and t.nodes)) }
   kind_writes tag.Text s t c is = made_node levels 3 form_of (λ (x : ℕ × ℕ). C.Text x.0 x.1) (passing (λ (x : ℕ × ℕ). nat_le x.0 x.1) (in_pair u16_in u16_in)) (λ (x : ℕ × ℕ). text_parts x.0 x.1) (λ x. folded_form _ _ (fold-Text CodeForm code_form_step x.0 x.1))
-    (passing_writes levels (λ (x : ℕ × ℕ). nat_le x.0 x.1) (in_pair u16_in u16_in) (λ (x : ℕ × ℕ). then_form (u16_form x.0) (u16_form x.1)) (pair_writes levels u16_in u16_in u16_form u16_form (number_writes levels 65535) (number_writes levels 65535))) s t c is
+      (passing_writes levels (λ (x : ℕ × ℕ). nat_le x.0 x.1) (in_pair u16_in u16_in) (λ (x : ℕ × ℕ). then_form (u16_form x.0) (u16_form x.1)) (pair_writes levels u16_in u16_in u16_form u16_form (number_writes levels 65535) (number_writes levels 65535))) s t c is
   kind_writes tag.Cross s t c is = made_node levels 4 form_of C.Cross (some_in one) (some_form form_of) (λ cs. folded_form _ _ (fold-Cross CodeForm code_form_step cs) ∙ ap (node 4) (kids_form cs)) (some_writes levels one form_of law) s t c is
   kind_writes tag.Concat s t c is = made_node levels 5 form_of C.Concat (some_in one) (some_form form_of) (λ cs. folded_form _ _ (fold-Concat CodeForm code_form_step cs) ∙ ap (node 5) (kids_form cs)) (some_writes levels one form_of law) s t c is
   kind_writes tag.List s t c is = made_node levels 6 form_of (λ (x : (Range × Range) × Code). C.List x.0.0 x.0.1 x.1) (in_pair ranges_in one) (λ (x : (Range × Range) × Code). list_parts x.0.0 x.0.1 x.1) (λ x. folded_form _ _ (fold-List CodeForm code_form_step x.0.0 x.0.1 x.1))
-    (pair_writes levels ranges_in one (λ (x : Range × Range). ranges_form x.0 x.1) form_of (ranges_writes levels) law) s t c is
+      (pair_writes levels ranges_in one (λ (x : Range × Range). ranges_form x.0 x.1) form_of (ranges_writes levels) law) s t c is
   kind_writes tag.Hash s t c is = made_node levels 7 form_of (λ (x : (Range × Range) × (List Code × (Code × List Expr))). C.Hash x.0.0 x.0.1 x.1.0 x.1.1.0 x.1.1.1) (in_pair ranges_in (hash_key_in one other)) (λ (x : (Range × Range) × (List Code × (Code × List Expr))). hash_parts x.0.0 x.0.1 x.1.0 x.1.1.0 x.1.1.1)
-    (λ x. folded_form _ _ (fold-Hash CodeForm code_form_step x.0.0 x.0.1 x.1.0 x.1.1.0 x.1.1.1) ∙ ap (λ (f : Form). node 7 (then_form (ranges_form x.0.0 x.0.1) f)) (key_form_is x.1.0 x.1.1.0 x.1.1.1))
-    (pair_writes levels ranges_in (hash_key_in one other) (λ (x : Range × Range). ranges_form x.0 x.1) (λ (x : List Code × (Code × List Expr)). key_parts x.0 x.1.0 x.1.1) (ranges_writes levels) hash_key_writes) s t c is
+      (λ x. folded_form _ _ (fold-Hash CodeForm code_form_step x.0.0 x.0.1 x.1.0 x.1.1.0 x.1.1.1) ∙ ap (λ (f : Form). node 7 (then_form (ranges_form x.0.0 x.0.1) f)) (key_form_is x.1.0 x.1.1.0 x.1.1.1))
+      (pair_writes levels ranges_in (hash_key_in one other) (λ (x : Range × Range). ranges_form x.0 x.1) (λ (x : List Code × (Code × List Expr)). key_parts x.0 x.1.0 x.1.1) (ranges_writes levels) hash_key_writes) s t c is
   kind_writes tag.Ord s t c is = made_node levels 8 form_of (λ (x : (Range × Range) × (Code × (Code × (Bound × Bound)))). C.Ord x.0.0 x.0.1 x.1.0 x.1.1.0 x.1.1.1.0 x.1.1.1.1) (in_pair ranges_in (in_pair (key_code_in one) (in_pair one (in_pair (bound_in other) (bound_in other)))))
-    (λ (x : (Range × Range) × (Code × (Code × (Bound × Bound)))). ord_parts x.0.0 x.0.1 x.1.0 x.1.1.0 x.1.1.1.0 x.1.1.1.1) (λ x. folded_form _ _ (fold-Ord CodeForm code_form_step x.0.0 x.0.1 x.1.0 x.1.1.0 x.1.1.1.0 x.1.1.1.1))
-    (pair_writes levels ranges_in (in_pair (key_code_in one) (in_pair one (in_pair (bound_in other) (bound_in other)))) (λ (x : Range × Range). ranges_form x.0 x.1) (λ (x : Code × (Code × (Bound × Bound))). then_form (key_form_of x.0) (then_form (form_of x.1.0) (then_form (bound_form x.1.1.0) (bound_form x.1.1.1)))) (ranges_writes levels)
+      (λ (x : (Range × Range) × (Code × (Code × (Bound × Bound)))). ord_parts x.0.0 x.0.1 x.1.0 x.1.1.0 x.1.1.1.0 x.1.1.1.1) (λ x. folded_form _ _ (fold-Ord CodeForm code_form_step x.0.0 x.0.1 x.1.0 x.1.1.0 x.1.1.1.0 x.1.1.1.1))
+      (pair_writes levels ranges_in (in_pair (key_code_in one) (in_pair one (in_pair (bound_in other) (bound_in other)))) (λ (x : Range × Range). ranges_form x.0 x.1) (λ (x : Code × (Code × (Bound × Bound))). then_form (key_form_of x.0) (then_form (form_of x.1.0) (then_form (bound_form x.1.1.0) (bound_form x.1.1.1)))) (ranges_writes levels)
       (pair_writes levels (key_code_in one) (in_pair one (in_pair (bound_in other) (bound_in other))) key_form_of (λ (x : Code × (Bound × Bound)). then_form (form_of x.0) (then_form (bound_form x.1.0) (bound_form x.1.1))) key_code_writes
-        (pair_writes levels one (in_pair (bound_in other) (bound_in other)) form_of (λ (x : Bound × Bound). then_form (bound_form x.0) (bound_form x.1)) law
-          (pair_writes levels (bound_in other) (bound_in other) bound_form bound_form (bound_writes levels) (bound_writes levels))))) s t c is
+      (pair_writes levels one (in_pair (bound_in other) (bound_in other)) form_of (λ (x : Bound × Bound). then_form (bound_form x.0) (bound_form x.1)) law
+      (pair_writes levels (bound_in other) (bound_in other) bound_form bound_form (bound_writes levels) (bound_writes levels))))) s t c is
   kind_writes tag.Select s t c is = made_node levels 9 form_of (λ (x : List Expr × Code). C.Select x.0 x.1) (in_pair (some_in other) one) (λ (x : List Expr × Code). then_form (some_form expr_form x.0) (form_of x.1)) (λ x. folded_form _ _ (fold-Select CodeForm code_form_step x.0 x.1))
-    (pair_writes levels (some_in other) one (some_form expr_form) form_of (some_writes levels other expr_form (expr_writes levels)) law) s t c is
+      (pair_writes levels (some_in other) one (some_form expr_form) form_of (some_writes levels other expr_form (expr_writes levels)) law) s t c is
   kind_writes tag.Filter s t c is = made_node levels 10 form_of (λ (x : Expr × Code). C.Filter x.0 x.1) (in_pair other one) (λ (x : Expr × Code). then_form (expr_form x.0) (form_of x.1)) (λ x. folded_form _ _ (fold-Filter CodeForm code_form_step x.0 x.1))
-    (pair_writes levels other one expr_form form_of (expr_writes levels) law) s t c is
+      (pair_writes levels other one expr_form form_of (expr_writes levels) law) s t c is
   kind_writes tag.Dep s t c is = made_node levels 11 form_of (λ (x : ℕ × (Code × Code)). C.Dep x.0 x.1.0 x.1.1) (in_pair u32_in (in_pair one one)) (λ (x : ℕ × (Code × Code)). then_form (u32_form x.0) (then_form (form_of x.1.0) (form_of x.1.1))) (λ x. folded_form _ _ (fold-Dep CodeForm code_form_step x.0 x.1.0 x.1.1))
-    (pair_writes levels u32_in (in_pair one one) u32_form (λ (x : Code × Code). then_form (form_of x.0) (form_of x.1)) (number_writes levels 4294967295) (pair_writes levels one one form_of form_of law law)) s t c is
+      (pair_writes levels u32_in (in_pair one one) u32_form (λ (x : Code × Code). then_form (form_of x.0) (form_of x.1)) (number_writes levels 4294967295) (pair_writes levels one one form_of form_of law law)) s t c is
   kind_writes tag.Group s t c is = made_node levels 12 form_of (λ (x : (List ℕ × List Agg) × Code). C.Group x.0.0 x.0.1 x.1) (in_pair group_in one) (λ (x : (List ℕ × List Agg) × Code). then_form (group_form x.0.0 x.0.1) (form_of x.1)) (λ x. folded_form _ _ (fold-Group CodeForm code_form_step x.0.0 x.0.1 x.1))
-    (pair_writes levels group_in one (λ (x : List ℕ × List Agg). group_form x.0 x.1) form_of (group_writes levels) law) s t c is
+      (pair_writes levels group_in one (λ (x : List ℕ × List Agg). group_form x.0 x.1) form_of (group_writes levels) law) s t c is
   kind_writes tag.Order s t c is = made_node levels 13 form_of (λ (x : List Key × Code). C.Order x.0 x.1) (in_pair (some_in key_in) one) (λ (x : List Key × Code). then_form (some_form key_form x.0) (form_of x.1)) (λ x. folded_form _ _ (fold-Order CodeForm code_form_step x.0 x.1))
-    (pair_writes levels (some_in key_in) one (some_form key_form) form_of (some_writes levels key_in key_form (key_writes levels)) law) s t c is
+      (pair_writes levels (some_in key_in) one (some_form key_form) form_of (some_writes levels key_in key_form (key_writes levels)) law) s t c is
   kind_writes tag.Dedup s t c is = made_node levels 14 form_of C.Dedup one form_of (λ d. folded_form _ _ (fold-Dedup CodeForm code_form_step d)) law s t c is
 
 pub code_writes : (levels : ℕ) → Writes levels (code_in levels) form_of

@@ -112,7 +112,7 @@ node_reads e kind parts is law zero s good = absurd (no_level (expr_number kind)
 node_reads e kind parts is law (suc levels) s good =
     ap (λ (f : Form). expr_in (suc levels) (front f s)) is
     ∙ next_of (told expr_tag tag_in (front (node (expr_number kind) parts) s)) (λ k t. expr_after k (expr_in levels) t) kind (front parts s)
-        (next_of _ _ _ _ (tag_reads (expr_number kind) parts s (tag_small kind)) ∙ ap (λ (o : Option ExprTag). with_left o (front parts s)) (tag_told kind))
+    (next_of _ _ _ _ (tag_reads (expr_number kind) parts s (tag_small kind)) ∙ ap (λ (o : Option ExprTag). with_left o (front parts s)) (tag_told kind))
     ∙ law levels s (parts_good levels (expr_number kind) parts (subst (Good (suc levels)) is good))
 
 literal_reads : (v : Value) → ExprReads (E.Lit v)
@@ -127,14 +127,14 @@ expr_reads = expr_induction ExprReads (record {
   param = λ i. node_reads _ part.Param (u32_form i) (fold-Param Form expr_form_step i) (λ levels. made_reads levels E.Param u32_in (u32_form i) i (number_reads levels 4294967295 i));
   lit = literal_reads;
   bin = λ op a b first second. node_reads _ part.Bin (then_form (u8_form (op_number op)) (then_form (expr_form a) (expr_form b))) (fold-Bin Form expr_form_step op a b) (λ levels.
-    made_reads levels (λ (x : Op × (Expr × Expr)). E.Bin x.0 x.1.0 x.1.1) (in_pair op_in (in_pair (expr_in levels) (expr_in levels))) (then_form (u8_form (op_number op)) (then_form (expr_form a) (expr_form b))) (op, (a, b))
+      made_reads levels (λ (x : Op × (Expr × Expr)). E.Bin x.0 x.1.0 x.1.1) (in_pair op_in (in_pair (expr_in levels) (expr_in levels))) (then_form (u8_form (op_number op)) (then_form (expr_form a) (expr_form b))) (op, (a, b))
       (pair_reads levels op_in (in_pair (expr_in levels) (expr_in levels)) (u8_form (op_number op)) (then_form (expr_form a) (expr_form b)) op (a, b) (op_reads levels op)
-        (pair_reads levels (expr_in levels) (expr_in levels) (expr_form a) (expr_form b) a b (first levels) (second levels))));
+      (pair_reads levels (expr_in levels) (expr_in levels) (expr_form a) (expr_form b) a b (first levels) (second levels))));
   not = λ a first. node_reads _ part.Not (expr_form a) (fold-Not Form expr_form_step a) (λ levels. made_reads levels E.Not (expr_in levels) (expr_form a) a (first levels));
   cond = λ c a b zeroth first second. node_reads _ part.If (then_form (expr_form c) (then_form (expr_form a) (expr_form b))) (fold-If Form expr_form_step c a b) (λ levels.
-    made_reads levels (λ (x : Expr × (Expr × Expr)). E.If x.0 x.1.0 x.1.1) (in_pair (expr_in levels) (in_pair (expr_in levels) (expr_in levels))) (then_form (expr_form c) (then_form (expr_form a) (expr_form b))) (c, (a, b))
+      made_reads levels (λ (x : Expr × (Expr × Expr)). E.If x.0 x.1.0 x.1.1) (in_pair (expr_in levels) (in_pair (expr_in levels) (expr_in levels))) (then_form (expr_form c) (then_form (expr_form a) (expr_form b))) (c, (a, b))
       (pair_reads levels (expr_in levels) (in_pair (expr_in levels) (expr_in levels)) (expr_form c) (then_form (expr_form a) (expr_form b)) c (a, b) (zeroth levels)
-        (pair_reads levels (expr_in levels) (expr_in levels) (expr_form a) (expr_form b) a b (first levels) (second levels))));
+      (pair_reads levels (expr_in levels) (expr_in levels) (expr_form a) (expr_form b) a b (first levels) (second levels))));
 })
 
 -- the node behind a tag is written as its parts
@@ -150,10 +150,10 @@ module _ (levels : ℕ) (law : Writes levels (expr_in levels) expr_form) where
   kind_writes part.Bool s t e is = made_node levels 36 expr_form (λ b. E.Lit (Truth b)) bool_in bool_form (λ b. fold-Lit Form expr_form_step (Truth b)) (bool_writes levels) s t e is
   kind_writes part.Text s t e is = made_node levels 37 expr_form (λ x. E.Lit (Text x)) text_in text_form (λ x. fold-Lit Form expr_form_step (Text x)) (text_writes levels) s t e is
   kind_writes part.Bin s t e is = made_node levels 38 expr_form (λ (x : Op × (Expr × Expr)). E.Bin x.0 x.1.0 x.1.1) (in_pair op_in (in_pair (expr_in levels) (expr_in levels))) (λ (x : Op × (Expr × Expr)). then_form (u8_form (op_number x.0)) (then_form (expr_form x.1.0) (expr_form x.1.1))) (λ x. fold-Bin Form expr_form_step x.0 x.1.0 x.1.1)
-    (pair_writes levels op_in (in_pair (expr_in levels) (expr_in levels)) (λ op. u8_form (op_number op)) (λ (x : Expr × Expr). then_form (expr_form x.0) (expr_form x.1)) (op_writes levels) two) s t e is
+      (pair_writes levels op_in (in_pair (expr_in levels) (expr_in levels)) (λ op. u8_form (op_number op)) (λ (x : Expr × Expr). then_form (expr_form x.0) (expr_form x.1)) (op_writes levels) two) s t e is
   kind_writes part.Not s t e is = made_node levels 39 expr_form E.Not (expr_in levels) expr_form (λ a. fold-Not Form expr_form_step a) law s t e is
   kind_writes part.If s t e is = made_node levels 40 expr_form (λ (x : Expr × (Expr × Expr)). E.If x.0 x.1.0 x.1.1) (in_pair (expr_in levels) (in_pair (expr_in levels) (expr_in levels))) (λ (x : Expr × (Expr × Expr)). then_form (expr_form x.0) (then_form (expr_form x.1.0) (expr_form x.1.1))) (λ x. fold-If Form expr_form_step x.0 x.1.0 x.1.1)
-    (pair_writes levels (expr_in levels) (in_pair (expr_in levels) (expr_in levels)) expr_form (λ (x : Expr × Expr). then_form (expr_form x.0) (expr_form x.1)) law two) s t e is
+      (pair_writes levels (expr_in levels) (in_pair (expr_in levels) (expr_in levels)) expr_form (λ (x : Expr × Expr). then_form (expr_form x.0) (expr_form x.1)) law two) s t e is
 
 pub expr_writes : (levels : ℕ) → Writes levels (expr_in levels) expr_form
 expr_writes zero s t e is = absurd (none-some _ is)

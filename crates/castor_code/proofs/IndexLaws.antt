@@ -124,9 +124,9 @@ module _ (count body : Range) (entry : Entry → Piece) (one : List ℕ → Read
       let fall = in_range es (bucket_count (length es)) (some_buckets (length es)) in
       ap (λ (q : Piece). index_read count body hash_offsets one write (q.bytes ++ rest)) (sym made)
       ∙ index_again count body hash_offsets entry one write law h rest es (bucketed es) (bucket_starts entry es) (is_keyed h es is) made (ap (λ (q : Piece). q.fits) made ∙ ok)
-          (length-by_bucket (bucket_of (bucket_count (length es))) es (bucket_count (length es)) fall)
-          (length-map-range_with_len _ 0 (hash_offsets (length es)))
-          (sorted-bucketed key_lt keys_apart (bucket_of (bucket_count (length es))) (bucket_count (length es)) es up fall)
+      (length-by_bucket (bucket_of (bucket_count (length es))) es (bucket_count (length es)) fall)
+      (length-map-range_with_len _ 0 (hash_offsets (length es)))
+      (sorted-bucketed key_lt keys_apart (bucket_of (bucket_count (length es))) (bucket_count (length es)) es up fall)
     where
       some_buckets : (n : ℕ) → 0 < bucket_count n
       some_buckets n = pow_pos _
@@ -140,6 +140,6 @@ module _ (count body : Range) (entry : Entry → Piece) (one : List ℕ → Read
       let up = ascends count body entry es es (entry_starts entry es) ok in
       ap (λ (q : Piece). index_read count body ord_offsets one write (q.bytes ++ rest)) (sym made)
       ∙ index_again count body ord_offsets entry one write law h rest es es (entry_starts entry es) (is_keyed h es is) made (ap (λ (q : Piece). q.fits) made ∙ ok)
-          refl
-          (length-map-range_with_len _ 0 (length es))
-          (sorted-rising key_lt keys_apart es up)
+      refl
+      (length-map-range_with_len _ 0 (length es))
+      (sorted-rising key_lt keys_apart es up)

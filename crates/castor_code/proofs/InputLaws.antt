@@ -214,8 +214,8 @@ tag_writes s t tag is parts u left =
         let bytes : s.bytes ≡ field 255 tag ++ t.bytes = ap (λ (x : Input). x.bytes) of_field.1 in
         let nodes : s.nodes - 1 ≡ 0 + t.nodes = ap (λ (x : Input). x.nodes) of_field.1 in
         same_input _ _
-          (bytes ∙ ap (λ (x : Input). field 255 tag ++ x.bytes) left ∙ sym (append_assoc (field 255 tag) parts.bytes u.bytes))
-          (counted s.nodes (parts.nodes + u.nodes) (ltb-true 0 s.nodes (sym some)) (nodes ∙ zero_and t.nodes ∙ ap (λ (x : Input). x.nodes) left) ∙ sums parts.nodes u.nodes)
+        (bytes ∙ ap (λ (x : Input). field 255 tag ++ x.bytes) left ∙ sym (append_assoc (field 255 tag) parts.bytes u.bytes))
+        (counted s.nodes (parts.nodes + u.nodes) (ltb-true 0 s.nodes (sym some)) (nodes ∙ zero_and t.nodes ∙ ap (λ (x : Input). x.nodes) left) ∙ sums parts.nodes u.nodes)
       where
         sums : (a b : ℕ) → 1 + (a + b) ≡ 1 + a + b
         sums a b = omega arith

@@ -17,11 +17,17 @@ pub struct Range {
 #[derive(Drop)]
 pub enum Code {
     /// One row of an int, which is at least `lo` and at most `hi`.
-    Int { lo: i64, hi: i64 },
+    Int {
+        lo: i64,
+        hi: i64,
+    },
     /// One row of a bool.
     Bool,
     /// One row of a text, which has at least `min` and at most `max` bytes.
-    Text { min: u16, max: u16 },
+    Text {
+        min: u16,
+        max: u16,
+    },
     /// All combinations of rows.
     Cross(Items<Code>),
     /// The rows of one kid after those of another.

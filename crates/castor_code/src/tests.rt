@@ -79,7 +79,9 @@ fn are_no_code(rt: &impl Abort, alloc: Global, bytes: &[u8]) {
 fn is_worked(code: &Code) -> bool {
     match code {
         Code::List { count, body, kid } => {
-            *count == Range { lo: 2, hi: 2 } && *body == Range { lo: 2, hi: 2 } && is_one_int(kid.get())
+            *count == Range { lo: 2, hi: 2 }
+                && *body == Range { lo: 2, hi: 2 }
+                && is_one_int(kid.get())
         }
         _ => false,
     }
@@ -118,13 +120,27 @@ fn every_node_goes_there_and_back(rt: HostRuntime) {
     is_code(&rt, alloc, &[&[4, 2, 0, 2, 2]]);
     is_code(&rt, alloc, &[&[5, 1, 0, 2]]);
     is_code(&rt, alloc, &[&[6], RANGES, &[2]]);
-    is_code(&rt, alloc, &[&[7], RANGES, &[2, 2, 3, 0, 0, 9, 0, 2, 34, 0, 0, 0, 0, 36, 1]]);
+    is_code(
+        &rt,
+        alloc,
+        &[
+            &[7],
+            RANGES,
+            &[2, 2, 3, 0, 0, 9, 0, 2, 34, 0, 0, 0, 0, 36, 1],
+        ],
+    );
     is_code(&rt, alloc, &[&[8], RANGES, &[2, 2, 0, 0]]);
     is_code(&rt, alloc, &[&[8], RANGES, &[2, 2, 1, 36, 0, 2, 36, 1]]);
     is_code(&rt, alloc, &[&[9, 1, 0, 32, 7, 0, 0, 0, 2]]);
     is_code(&rt, alloc, &[&[10, 39, 33, 1, 0, 0, 0, 2, 0, 0, 0, 2]]);
     is_code(&rt, alloc, &[&[11, 9, 8, 7, 6, 2, 3, 0, 0, 0, 0]]);
-    is_code(&rt, alloc, &[&[12, 1, 0, 3, 0, 0, 0, 4, 0, 0, 1, 1, 0, 0, 0, 2, 2, 0, 0, 0, 3, 3, 0, 0, 0, 2]]);
+    is_code(
+        &rt,
+        alloc,
+        &[&[
+            12, 1, 0, 3, 0, 0, 0, 4, 0, 0, 1, 1, 0, 0, 0, 2, 2, 0, 0, 0, 3, 3, 0, 0, 0, 2,
+        ]],
+    );
     is_code(&rt, alloc, &[&[12, 0, 0, 1, 0, 0, 2]]);
     is_code(&rt, alloc, &[&[13, 2, 0, 1, 0, 0, 0, 1, 2, 0, 0, 0, 0, 2]]);
     is_code(&rt, alloc, &[&[14, 2]]);
@@ -164,7 +180,9 @@ fn every_operator_has_its_number(rt: HostRuntime) {
 
 fn compares_by(code: &Code, due: Op) -> bool {
     match code {
-        Code::Filter(Expr::Bin(op, a, b), _) => *op == due && is_truth(a.get(), false) && is_truth(b.get(), true),
+        Code::Filter(Expr::Bin(op, a, b), _) => *op == due
+            && is_truth(a.get(), false)
+            && is_truth(b.get(), true),
         _ => false,
     }
 }
@@ -179,7 +197,12 @@ fn is_truth(e: &Expr, due: bool) -> bool {
 #[test]
 fn numbers_are_read_as_what_they_are(rt: HostRuntime) {
     let alloc = rt.alloc();
-    match decode(alloc, &[1, 0xfe, 0xff, 0xff, 0xff, 0xff, 0xff, 0xff, 0xff, 1, 2, 0, 0, 0, 0, 0, 0]) {
+    match decode(
+        alloc,
+        &[
+            1, 0xfe, 0xff, 0xff, 0xff, 0xff, 0xff, 0xff, 0xff, 1, 2, 0, 0, 0, 0, 0, 0,
+        ],
+    ) {
         Ok(Code::Int { lo, hi }) => assert_eq!(rt; (lo, hi), (-2, 513)),
         _ => assert!(rt; false),
     }
@@ -195,7 +218,10 @@ fn numbers_are_read_as_what_they_are(rt: HostRuntime) {
         _ => assert!(rt; false),
     }
     match decode(alloc, &[13, 1, 0, 5, 0, 0, 0, 1, 2]) {
-        Ok(Code::Order(keys, _)) => assert_eq!(rt; keys.as_slice(), [Key { col: 5, desc: true }].as_slice()),
+        Ok(Code::Order(keys, _)) => assert_eq!(rt;
+            keys.as_slice(),
+            [Key { col: 5, desc: true }].as_slice()
+        ),
         _ => assert!(rt; false),
     }
 }
@@ -205,8 +231,19 @@ fn a_bound_lets_its_limit_in_or_not(rt: HostRuntime) {
     let alloc = rt.alloc();
     match joined(alloc, &[&[8], RANGES, &[2, 2, 1, 36, 0, 2, 36, 1]]) {
         Ok(bytes) => match decode(alloc, bytes.as_slice()) {
-            Ok(Code::Ord { count, body, lo, hi, .. }) => {
-                assert_eq!(rt; (count, body), (Range { lo: 1, hi: 2 }, Range { lo: 3, hi: 4 }));
+            Ok(
+                Code::Ord {
+                    count,
+                    body,
+                    lo,
+                    hi,
+                    ..
+                },
+            ) => {
+                assert_eq!(rt;
+                    (count, body),
+                    (Range { lo: 1, hi: 2 }, Range { lo: 3, hi: 4 })
+                );
                 assert!(rt; is_incl(&lo, false) && is_excl(&hi, true));
             }
             _ => assert!(rt; false),
@@ -237,7 +274,11 @@ fn no_range_falls(rt: HostRuntime) {
     is_no_code(&rt, alloc, &[&[3, 2, 0, 1, 0]]);
     for tag in [6, 7, 8] {
         for ranges in [[FALLING, ZEROS], [ZEROS, FALLING]] {
-            is_no_code(&rt, alloc, &[&[tag], ranges[0], ranges[1], behind_ranges(tag)]);
+            is_no_code(
+                &rt,
+                alloc,
+                &[&[tag], ranges[0], ranges[1], behind_ranges(tag)],
+            );
         }
         is_code(&rt, alloc, &[&[tag], ZEROS, ZEROS, behind_ranges(tag)]);
     }
@@ -265,9 +306,25 @@ fn no_list_is_empty_that_has_to_have_something(rt: HostRuntime) {
 #[test]
 fn a_hash_has_1_to_4_keys_of_single_values(rt: HostRuntime) {
     let alloc = rt.alloc();
-    is_code(&rt, alloc, &[&[7], RANGES, &[4, 2, 2, 2, 2, 2, 36, 0, 36, 0, 36, 0, 36, 0]]);
+    is_code(
+        &rt,
+        alloc,
+        &[
+            &[7],
+            RANGES,
+            &[4, 2, 2, 2, 2, 2, 36, 0, 36, 0, 36, 0, 36, 0],
+        ],
+    );
     is_no_code(&rt, alloc, &[&[7], RANGES, &[0, 2]]);
-    is_no_code(&rt, alloc, &[&[7], RANGES, &[5, 2, 2, 2, 2, 2, 2, 36, 0, 36, 0, 36, 0, 36, 0, 36, 0]]);
+    is_no_code(
+        &rt,
+        alloc,
+        &[
+            &[7],
+            RANGES,
+            &[5, 2, 2, 2, 2, 2, 2, 36, 0, 36, 0, 36, 0, 36, 0, 36, 0],
+        ],
+    );
     is_no_code(&rt, alloc, &[&[7], RANGES, &[2, 2, 2, 2, 36, 0]]);
     is_no_code(&rt, alloc, &[&[7], RANGES, &[1, 14, 2, 2, 36, 0]]);
     is_no_code(&rt, alloc, &[&[8], RANGES, &[14, 2, 2, 0, 0]]);
@@ -338,12 +395,42 @@ fn skips_read_lengths_and_counts(rt: HostRuntime) {
     skips(&rt, alloc, &[&[1], ZEROS], 0);
     skips(&rt, alloc, &[&[2]], 0);
     skips(&rt, alloc, &[&[3, 0, 0, 0, 0]], 1);
-    skips(&rt, alloc, &[&[4, 3, 0, 3, 0, 0, 0, 0, 2, 3, 0, 0, 0, 0]], 2);
-    skips(&rt, alloc, &[&[6], RANGES, &[4, 2, 0, 3, 0, 0, 0, 0, 3, 0, 0, 0, 0]], 1);
-    skips(&rt, alloc, &[&[7], RANGES, &[1, 3, 0, 0, 0, 0, 3, 0, 0, 0, 0, 36, 0]], 2);
-    skips(&rt, alloc, &[&[8], RANGES, &[3, 0, 0, 0, 0, 3, 0, 0, 0, 0, 0, 0]], 2);
-    skips(&rt, alloc, &[&[11, 0, 0, 0, 0, 3, 0, 0, 0, 0, 8], RANGES, &[2, 2, 0, 0]], 3);
-    skips(&rt, alloc, &[&[14, 10, 36, 1, 5, 2, 0, 3, 0, 0, 0, 0, 3, 0, 0, 0, 0]], 2);
+    skips(
+        &rt,
+        alloc,
+        &[&[4, 3, 0, 3, 0, 0, 0, 0, 2, 3, 0, 0, 0, 0]],
+        2,
+    );
+    skips(
+        &rt,
+        alloc,
+        &[&[6], RANGES, &[4, 2, 0, 3, 0, 0, 0, 0, 3, 0, 0, 0, 0]],
+        1,
+    );
+    skips(
+        &rt,
+        alloc,
+        &[&[7], RANGES, &[1, 3, 0, 0, 0, 0, 3, 0, 0, 0, 0, 36, 0]],
+        2,
+    );
+    skips(
+        &rt,
+        alloc,
+        &[&[8], RANGES, &[3, 0, 0, 0, 0, 3, 0, 0, 0, 0, 0, 0]],
+        2,
+    );
+    skips(
+        &rt,
+        alloc,
+        &[&[11, 0, 0, 0, 0, 3, 0, 0, 0, 0, 8], RANGES, &[2, 2, 0, 0]],
+        3,
+    );
+    skips(
+        &rt,
+        alloc,
+        &[&[14, 10, 36, 1, 5, 2, 0, 3, 0, 0, 0, 0, 3, 0, 0, 0, 0]],
+        2,
+    );
 }
 
 fn skips(rt: &impl Abort, alloc: Global, parts: &[&[u8]], due: u64) {

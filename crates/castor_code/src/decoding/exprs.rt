@@ -75,7 +75,12 @@ impl<'a> Input<'a> {
     }
 
     /// So many expressions.
-    pub fn exprs(&mut self, alloc: Global, levels: u8, number: usize) -> Result<Items<Expr>, CodeError>
+    pub fn exprs(
+        &mut self,
+        alloc: Global,
+        levels: u8,
+        number: usize,
+    ) -> Result<Items<Expr>, CodeError>
         ensures { Takes (λ es. es) (many number (λ s. expr_in levels s) (seen self.old)) (seen self.new) result }
     {
         let mut es = Items::new(alloc);

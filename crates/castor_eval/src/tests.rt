@@ -88,23 +88,6 @@ fn gives(alloc: Global, q: Rel, tables: &[Table], due: &str) -> Result<bool, Fai
     gives_under(alloc, &q, tables, &env, due)
 }
 
-// Whether a relation gives these rows and faults under one parameter.
-fn gives_with(
-    alloc: Global,
-    q: &Rel,
-    tables: &[Table],
-    param: Value,
-    due: &str,
-) -> Result<bool, Fail> {
-    let mut params = Row::new(alloc);
-    params.push(param)?;
-    let env = OwnedEnv {
-        scopes: Vec::new(alloc),
-        params,
-    };
-    gives_under(alloc, q, tables, &env, due)
-}
-
 fn int(number: i64) -> Expr {
     Expr::Lit(Value::Int(number))
 }
@@ -192,8 +175,6 @@ fn combines_rows_with_the_last_operand_fastest(rt: HostRuntime) -> Result<(), Fa
     let q = Rel::Cross(all(alloc, &[0, 1, 2])?);
     assert!(rt; gives(alloc, q, &tables, " 1,7,8,3 1,7,8,1 2,7,8,3 2,7,8,1")?);
     assert!(rt; gives(alloc, Rel::Cross(all(alloc, &[0, 3])?), &tables, "")?);
-    assert!(rt; gives(alloc, Rel::Cross(all(alloc, &[3, 0])?), &tables, "")?);
-    assert!(rt; gives(alloc, Rel::Cross(all(alloc, &[])?), &tables, " ")?);
     assert!(rt;
         gives(
             alloc,
@@ -256,22 +237,11 @@ fn reads_the_environment(rt: HostRuntime) -> Result<(), Fail> {
     Ok(())
 }
 
-fn grouped_rows(alloc: Global, ks: &[u32], aggs: &[Agg], r: Boxed<Rel>) -> Result<Rel, Fail> {
-    let ks = Items::from_slice(alloc, ks)?;
-    let aggs = Items::from_slice(alloc, aggs)?;
-    Ok(Rel::Group(ks, aggs, r))
-}
-
 // The first table, grouped.
 fn grouped(alloc: Global, ks: &[u32], aggs: &[Agg]) -> Result<Rel, Fail> {
-    grouped_rows(alloc, ks, aggs, table(alloc, 0)?)
-}
-
-// The rows of the first table whose first value stands to the first parameter as the operator says, grouped.
-fn grouped_where(alloc: Global, ks: &[u32], aggs: &[Agg], op: Op) -> Result<Rel, Fail> {
-    let condition = bin(alloc, op, Expr::Col(0), Expr::Param(0))?;
-    let rows = Rel::Filter(condition, table(alloc, 0)?);
-    grouped_rows(alloc, ks, aggs, Boxed::new(alloc, rows)?)
+    let ks = Items::from_slice(alloc, ks)?;
+    let aggs = Items::from_slice(alloc, aggs)?;
+    Ok(Rel::Group(ks, aggs, table(alloc, 0)?))
 }
 
 #[test]
@@ -293,32 +263,6 @@ fn faults_on_the_whole_sum_alone(rt: HostRuntime) -> Result<(), Fail> {
     let tables = tables(alloc, &[&rows])?;
     let q = grouped(alloc, &[0], &[Agg::Sum(1)])?;
     assert!(rt; gives(alloc, q, &tables, " 7,9223372036854775807 |o")?);
-    Ok(())
-}
-
-#[test]
-fn sums_the_rows_that_a_parameter_lets_in(rt: HostRuntime) -> Result<(), Fail> {
-    let alloc = rt.alloc();
-    let tables = tables(alloc, &[&[&[i64::MAX], &[1], &[-1]]])?;
-    let q = grouped_where(alloc, &[], &[Agg::Sum(0)], Op::Ge)?;
-    let whole = " 9223372036854775807";
-    assert!(rt; gives_with(alloc, &q, &tables, Value::Int(-5), whole)?);
-    assert!(rt; gives_with(alloc, &q, &tables, Value::Int(0), " |o")?);
-    Ok(())
-}
-
-#[test]
-fn finds_no_least_of_no_rows(rt: HostRuntime) -> Result<(), Fail> {
-    let alloc = rt.alloc();
-    let tables = named(alloc, &[("ann", 30), ("bob", 20), ("ann", 5)])?;
-    let least = grouped_where(alloc, &[], &[Agg::Min(1)], Op::Eq)?;
-    let least_of_each = grouped_where(alloc, &[0], &[Agg::Min(1)], Op::Eq)?;
-    for (name, due, due_of_each) in [("zed", " |n", ""), ("ann", " 5", " ann,5")] {
-        let named = Value::Text(Text::from_str(alloc, name)?);
-        assert!(rt; gives_with(alloc, &least, &tables, named, due)?);
-        let named = Value::Text(Text::from_str(alloc, name)?);
-        assert!(rt; gives_with(alloc, &least_of_each, &tables, named, due_of_each)?);
-    }
     Ok(())
 }
 

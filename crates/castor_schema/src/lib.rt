@@ -19,8 +19,6 @@ mod names;
 mod operators;
 mod relation;
 mod scopes;
-#[cfg(test)]
-mod tests;
 mod types;
 
 pub use checked::{Checked, Declared};

@@ -16,6 +16,14 @@ fn ints(alloc: Global, numbers: &[i64]) -> Result<Row, Fail> {
     Ok(row)
 }
 
+// A row of one text.
+fn text(alloc: Global, text: &str) -> Result<Row, Fail> {
+    let text = Text::from_str(alloc, text)?;
+    let mut row = Row::new(alloc);
+    row.push(Value::Text(text))?;
+    Ok(row)
+}
+
 // Tables of rows of ints.
 fn tables(alloc: Global, rows: &[&[&[i64]]]) -> Result<Vec<Table>, Fail> {
     let mut tables = Vec::new(alloc);
@@ -79,13 +87,24 @@ fn gives_under(
     Ok(shown(alloc, &out)?.as_str() == due)
 }
 
-// Whether a relation that reads no environment gives these rows and faults.
-fn gives(alloc: Global, q: Rel, tables: &[Table], due: &str) -> Result<bool, Fail> {
+// Whether a relation gives these rows and faults under parameters.
+fn gives_with(
+    alloc: Global,
+    q: Rel,
+    tables: &[Table],
+    params: Row,
+    due: &str,
+) -> Result<bool, Fail> {
     let env = OwnedEnv {
         scopes: Vec::new(alloc),
-        params: Row::new(alloc),
+        params,
     };
     gives_under(alloc, &q, tables, &env, due)
+}
+
+// Whether a relation that reads no environment gives these rows and faults.
+fn gives(alloc: Global, q: Rel, tables: &[Table], due: &str) -> Result<bool, Fail> {
+    gives_with(alloc, q, tables, Row::new(alloc), due)
 }
 
 fn int(number: i64) -> Expr {
@@ -175,6 +194,8 @@ fn combines_rows_with_the_last_operand_fastest(rt: HostRuntime) -> Result<(), Fa
     let q = Rel::Cross(all(alloc, &[0, 1, 2])?);
     assert!(rt; gives(alloc, q, &tables, " 1,7,8,3 1,7,8,1 2,7,8,3 2,7,8,1")?);
     assert!(rt; gives(alloc, Rel::Cross(all(alloc, &[0, 3])?), &tables, "")?);
+    assert!(rt; gives(alloc, Rel::Cross(all(alloc, &[3, 0])?), &tables, "")?);
+    assert!(rt; gives(alloc, Rel::Cross(all(alloc, &[])?), &tables, " ")?);
     assert!(rt;
         gives(
             alloc,
@@ -237,11 +258,22 @@ fn reads_the_environment(rt: HostRuntime) -> Result<(), Fail> {
     Ok(())
 }
 
-// The first table, grouped.
-fn grouped(alloc: Global, ks: &[u32], aggs: &[Agg]) -> Result<Rel, Fail> {
+fn grouped_rows(alloc: Global, ks: &[u32], aggs: &[Agg], r: Boxed<Rel>) -> Result<Rel, Fail> {
     let ks = Items::from_slice(alloc, ks)?;
     let aggs = Items::from_slice(alloc, aggs)?;
-    Ok(Rel::Group(ks, aggs, table(alloc, 0)?))
+    Ok(Rel::Group(ks, aggs, r))
+}
+
+// The first table, grouped.
+fn grouped(alloc: Global, ks: &[u32], aggs: &[Agg]) -> Result<Rel, Fail> {
+    grouped_rows(alloc, ks, aggs, table(alloc, 0)?)
+}
+
+// The rows of the first table whose first value stands to the first parameter as the operator says, grouped.
+fn grouped_where(alloc: Global, ks: &[u32], aggs: &[Agg], op: Op) -> Result<Rel, Fail> {
+    let condition = bin(alloc, op, Expr::Col(0), Expr::Param(0))?;
+    let rows = Rel::Filter(condition, table(alloc, 0)?);
+    grouped_rows(alloc, ks, aggs, Boxed::new(alloc, rows)?)
 }
 
 #[test]
@@ -263,6 +295,46 @@ fn faults_on_the_whole_sum_alone(rt: HostRuntime) -> Result<(), Fail> {
     let tables = tables(alloc, &[&rows])?;
     let q = grouped(alloc, &[0], &[Agg::Sum(1)])?;
     assert!(rt; gives(alloc, q, &tables, " 7,9223372036854775807 |o")?);
+    Ok(())
+}
+
+// Whether the sum of the ints that are at least this one gives these rows and faults.
+fn sums_from(alloc: Global, tables: &[Table], least: i64, due: &str) -> Result<bool, Fail> {
+    let params = ints(alloc, &[least])?;
+    let q = grouped_where(alloc, &[], &[Agg::Sum(0)], Op::Ge)?;
+    gives_with(alloc, q, tables, params, due)
+}
+
+#[test]
+fn sums_the_rows_that_a_parameter_lets_in(rt: HostRuntime) -> Result<(), Fail> {
+    let alloc = rt.alloc();
+    let tables = tables(alloc, &[&[&[i64::MAX], &[1], &[-1]]])?;
+    let whole = " 9223372036854775807";
+    assert!(rt; sums_from(alloc, &tables, -5, whole)?);
+    assert!(rt; sums_from(alloc, &tables, 0, " |o")?);
+    Ok(())
+}
+
+// Whether the least number beside this name, by the keys, gives these rows and faults.
+fn least_beside(
+    alloc: Global,
+    tables: &[Table],
+    ks: &[u32],
+    name: &str,
+    due: &str,
+) -> Result<bool, Fail> {
+    let params = text(alloc, name)?;
+    let q = grouped_where(alloc, ks, &[Agg::Min(1)], Op::Eq)?;
+    gives_with(alloc, q, tables, params, due)
+}
+
+#[test]
+fn finds_no_least_of_no_rows(rt: HostRuntime) -> Result<(), Fail> {
+    let alloc = rt.alloc();
+    let tables = named(alloc, &[("ann", 30), ("bob", 20), ("ann", 5)])?;
+    assert!(rt; least_beside(alloc, &tables, &[], "zed", " |n")?);
+    assert!(rt; least_beside(alloc, &tables, &[], "ann", " 5")?);
+    assert!(rt; least_beside(alloc, &tables, &[0], "zed", "")?);
     Ok(())
 }
 

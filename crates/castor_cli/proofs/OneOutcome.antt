@@ -25,7 +25,6 @@ use Rattle.castor_cli.specs.Commands.{command_of}
 use Rattle.castor_cli.specs.Outcome.{IsStarted, IsStartedBy, word}
 use Rattle.castor_cli.specs.Preparation.{IsPrepared, IsQueryIn, Says, query_fails, with_query}
 use Rattle.castor_cli.specs.Query.{ChecksTo, IsQuery, IsUnchecked, IsUnparsed}
-use Rattle.castor_cli.specs.Served.{is_served}
 
 same_tokens : (text : List ℕ) (ts us : List Token) → tokens_of text ≡ Some ts → tokens_of text ≡ Some us → ts ≡ us
 same_tokens text ts us a b = let f : ◌≡◌ {A = Option (List Token)} (Some ts) (Some us) = sym a ∙ b in cc f
@@ -95,10 +94,8 @@ one_checked : (text : List ℕ) (c d : Checked) → ChecksTo text (Ok c) → Che
 one_checked text c d a b = let f : ◌≡◌ {A = Result Checked SchemaError} (Ok c) (Ok d) = one_check text (Ok c) (Ok d) a b in cc f
 
 query_not_refused : (text : List ℕ) (c : Checked) (s : Status) → IsQuery text (Ok c) → IsQuery text (Err s) → ⊥
-query_not_refused text c (status.Query (fault.Parse why)) ((file, p, is), served) h = parsed_not_refused text file why p h
-query_not_refused text c (status.Query (fault.Schema why)) (checks, served) h = checked_not_refused text c why checks h
-query_not_refused text c status.NotYet (checks, served) (d, other, unserved) =
-    true_not_false (is_served d.query) (rw (sym (one_checked text c d checks other)) served) unserved
+query_not_refused text c (status.Query (fault.Parse why)) (file, p, is) h = parsed_not_refused text file why p h
+query_not_refused text c (status.Query (fault.Schema why)) checks h = checked_not_refused text c why checks h
 query_not_refused text c s is h = absurd h
 
 -- ---- what is made ready is one
@@ -108,7 +105,7 @@ said_not_refused (Ok text) c s is h = query_not_refused text c s is h
 said_not_refused (Err why) c s is h = let f : ◌≡◌ {A = Result Checked Status} (Ok c) (Err why) = is in cc f
 
 said_once : (file : Result (List ℕ) Status) (c d : Checked) → Says file IsQuery (Ok c) → Says file IsQuery (Ok d) → c ≡ d
-said_once (Ok text) c d (a, served) (b, too) = one_checked text c d a b
+said_once (Ok text) c d a b = one_checked text c d a b
 said_once (Err why) c d is h = absurd (let f : ◌≡◌ {A = Result Checked Status} (Ok c) (Err why) = is in cc f)
 
 ready_not_refused : (files : Files) (script : List ℕ) (p : Prepared) (s : Status) (c d : Checked) → c ≡ d → with_query None files script c ≡ Ok p → with_query None files script d ≡ Err s → ⊥

@@ -2,7 +2,15 @@
 use Rattle.std.proofs.Common.{◌≡◌, ◌⊎◌, ◌∙◌, ℕ, zero, suc, ◌+◌, List, [], ◌∷◌, Bool, true, false, Option, Some, None, Result, Ok, Err, IfSome, refl, sym, ap, subst, inl, inr, zero-add, arith, length, ◌≤◌, ◌++◌}
 use Rattle.std.specs.List.{slice_get}
 use Rattle.castor_base.specs.Files.{Files, SameFiles}
+use Rattle.castor_val.specs.declared.fault.Faults.{Faults}
 use Rattle.castor_val.specs.declared.table.Table.{Table}
+use Rattle.castor_alg.specs.declared.held.Held.{Held}
+use Rattle.castor_alg.specs.declared.rel.Rel.{Rel}
+use Rattle.castor_script.specs.declared.step_error.StepError.{StepError}
+use Rattle.castor_script.specs.Finish.{finish_of}
+use Rattle.castor_stage.specs.HeldData.{held_data}
+use Rattle.castor_stage.specs.Stages.{Staged, stage}
+use Rattle.castor_schema.specs.WellTyped.{context_of}
 use Rattle.castor_schema.specs.declared.checked.Checked.{Checked}
 use Rattle.castor_schema.specs.declared.checked.Declared.{Declared}
 use Rattle.castor_cli.specs.declared.preparation.Prepared.{Prepared}
@@ -11,7 +19,9 @@ use Rattle.castor_cli.specs.declared.status.ReadFault.TheVariants as fault
 use Rattle.castor_cli.specs.declared.status.Status.{Status}
 use Rattle.castor_cli.specs.declared.status.Status.TheVariants as status
 use Rattle.castor_cli.specs.Causes.{IsDue, IsDueAmong, IsDueLater, IsOfPart, IsRefusal, NamesDeclared, NamesOneOf, NamesTable, PartRefused, PreparationRefused, RestRefused, RoseWhere, SpeaksOf, TablesRefused, file_of_status, nth_name}
-use Rattle.castor_cli.specs.Preparation.{Broken, IsPrepared, IsQueryIn, after, script_in, tables_in, with_query}
+use Rattle.castor_cli.specs.After.{after}
+use Rattle.castor_cli.specs.Building.{built, checked_last, if_finished, if_held, if_ordered, if_staged, keeps_order}
+use Rattle.castor_cli.specs.Preparation.{Broken, IsPrepared, IsQueryIn, script_in, tables_behind, tables_in, with_query}
 use Rattle.castor_cli.specs.Status.{table_file}
 use Rattle.castor_cli.proofs.Tables.{both_told, if_told, if_told_later, rose_where_up}
 
@@ -41,7 +51,6 @@ script_refusal s of_part = absurd of_part
 query_refusal : (s : Status) → IsOfPart place.Query s → IsRefusal s
 query_refusal (status.Read place.Query why) of_part = tt
 query_refusal (status.Query why) of_part = tt
-query_refusal status.NotYet of_part = tt
 query_refusal status.Memory of_part = tt
 query_refusal s of_part = absurd of_part
 
@@ -85,16 +94,93 @@ rest_at_tables told later told_after rose rises query script c s well same up r 
   speaks = let (name, names, count) = r.table in tables_speak told_after rose rises query script c.tables s name up names count;
 }
 
-rest_in : (files : Files) (script : List ℕ) (c : Checked) (ts all : List Table) → script_in false files script ≡ Ok tt
-    → (loaded : List Table) × (all ≡ [] ++ loaded) × (tables_in None files 0 c.tables ≡ Ok loaded) → with_query None files script c ≡ Ok (record { checked = c; tables = all })
-rest_in files script c ts all well (loaded, grew, is) = rw (well, is, grew) refl
+tables_in_all : (files : Files) (script : List ℕ) (c : Checked) (all : List Table) → script_in false files script ≡ Ok tt
+    → (loaded : List Table) × (all ≡ [] ++ loaded) × (tables_in None files 0 c.tables ≡ Ok loaded) → tables_behind None files script c ≡ Ok all
+tables_in_all files script c all well (loaded, grew, is) = rw (well, is, grew) refl
 
 -- the script and the tables are well
-pub rest_well : (told later : Option Files) (script : List ℕ) (c : Checked) (all : List Table)
+pub tables_well : (told later : Option Files) (script : List ℕ) (c : Checked) (all : List Table)
     → IfSome told (λ (files : Files). script_in false files script ≡ Ok tt) → SameFiles told later
     → IfSome later (λ (files : Files). (loaded : List Table) × (all ≡ [] ++ loaded) × (tables_in None files 0 c.tables ≡ Ok loaded))
-    → IfSome told (λ (files : Files). with_query None files script c ≡ Ok (record { checked = c; tables = all }))
-rest_well told later script c all well same rest = both_told told _ _ _ (λ files w h. rest_in files script c all all w h) well (if_told_later told later _ same rest)
+    → IfSome told (λ (files : Files). tables_behind None files script c ≡ Ok all)
+tables_well told later script c all well same rest = both_told told _ _ _ (λ files w h. tables_in_all files script c all w h) well (if_told_later told later _ same rest)
+
+-- ---- the final query
+
+-- a refusal of the final query, or want of memory
+abbrev IsOfBuild : Status → Type 0
+IsOfBuild (status.Script why) = Unit {0}
+IsOfBuild (status.Build why) = Unit {0}
+IsOfBuild status.Memory = Unit {0}
+IsOfBuild s = ⊥
+
+of_build : {A : Type 0} (r s : Status) → IsOfBuild r → ◌≡◌ {A = Result A Status} (Err r) (Err s) → IsOfBuild s
+of_build r s of is = let same : r ≡ s = cc is in subst IsOfBuild same of
+
+after_refuses : {A B : Type 0} (r : Result A Status) (next : A → Result B Status) (s : Status) → ((why : Status) → r ≡ Err why → IsOfBuild why) → ((a : A) (why : Status) → next a ≡ Err why → IsOfBuild why) → after r next ≡ Err s → IsOfBuild s
+after_refuses (Ok a) next s first later is = later a s is
+after_refuses (Err why) next s first later is = of_build why s (first why refl) is
+
+finish_refuses : (r : Result Rel StepError) (s : Status) → if_finished r ≡ Err s → IsOfBuild s
+finish_refuses (Ok q) s is = cc is
+finish_refuses (Err why) s is = of_build _ s tt is
+
+order_refuses : (kept : Bool) (q : Rel) (s : Status) → if_ordered kept q ≡ Err s → IsOfBuild s
+order_refuses true q s is = cc is
+order_refuses false q s is = of_build _ s tt is
+
+stage_refuses : (r : Staged) (q : Rel) (s : Status) → if_staged r q ≡ Err s → IsOfBuild s
+stage_refuses (Ok fine) q s is = cc is
+stage_refuses (Err why) q s is = of_build _ s tt is
+
+data_refuses : (r : Result Held Faults) (q : Rel) (s : Status) → if_held r q ≡ Err s → IsOfBuild s
+data_refuses (Ok held) q s is = cc is
+data_refuses (Err f) q s is = of_build _ s tt is
+
+last_refuses : (q : Rel) (ts : List Table) (final : Rel) (s : Status) → checked_last q ts final ≡ Err s → IsOfBuild s
+last_refuses q ts final s is =
+    after_refuses (if_ordered (keeps_order q final) final) _ s (λ why e. order_refuses (keeps_order q final) final why e)
+    (λ a why e. after_refuses (if_staged (stage final) final) _ why (λ w d. stage_refuses (stage final) final w d) (λ b w d. data_refuses (held_data final ts) final w d) e) is
+
+built_refuses : (c : Checked) (ts : List Table) (s : Status) → built c ts ≡ Err s → IsOfBuild s
+built_refuses c ts s is = after_refuses (if_finished (finish_of (context_of c).tables c.query)) (checked_last c.query ts) s (λ why e. finish_refuses _ why e) (λ final why e. last_refuses c.query ts final why e) is
+
+build_refuses : (c : Checked) (ts : List Table) (s : Status) → (s ≡ status.Memory) ⊎ (built c ts ≡ Err s) → IsOfBuild s
+build_refuses c ts s (inl memory) = subst IsOfBuild (sym memory) tt
+build_refuses c ts s (inr is) = built_refuses c ts s is
+
+build_refusal : (s : Status) → IsOfBuild s → IsRefusal s
+build_refusal (status.Script why) of = tt
+build_refusal (status.Build why) of = tt
+build_refusal status.Memory of = tt
+build_refusal s of = absurd of
+
+build_speaks : (told_after : Option Files) (rose : List ℕ → Type 0) (query script : List ℕ) (ds : List Declared) (s : Status) → IsOfBuild s → SpeaksOf told_after rose query script ds s
+build_speaks told_after rose query script ds (status.Script why) of = ([], tt, tt)
+build_speaks told_after rose query script ds (status.Build why) of = ([], tt, tt)
+build_speaks told_after rose query script ds status.Memory of = ([], tt, tt)
+build_speaks told_after rose query script ds s of = absurd of
+
+build_due : (files : Files) (script : List ℕ) (c : Checked) (ts : List Table) (s : Status) → (s ≡ status.Memory) ⊎ (built c ts ≡ Err s) → tables_behind None files script c ≡ Ok ts → IsDueLater (λ broken. with_query broken files script c) s
+build_due files script c ts s (inl memory) loaded = inl memory
+build_due files script c ts s (inr is) loaded = inr (None, refl, tt, rw (loaded, is) refl)
+
+-- the final query was refused
+pub rest_at_build : (told told_after : Option Files) (rose : List ℕ → Type 0) (query script : List ℕ) (c : Checked) (ts : List Table) (s : Status)
+    → IfSome told (λ (files : Files). tables_behind None files script c ≡ Ok ts) → (s ≡ status.Memory) ⊎ (built c ts ≡ Err s) → RestRefused told told_after rose query script c s
+rest_at_build told told_after rose query script c ts s loaded why = record {
+  refusal = build_refusal s (build_refuses c ts s why);
+  due = if_told told _ _ (λ files. build_due files script c ts s why) loaded;
+  speaks = build_speaks told_after rose query script c.tables s (build_refuses c ts s why);
+}
+
+rest_in : (files : Files) (script : List ℕ) (c : Checked) (ts : List Table) (q : Rel) → built c ts ≡ Ok q → tables_behind None files script c ≡ Ok ts → with_query None files script c ≡ Ok (record { checked = c; tables = ts; final_query = q })
+rest_in files script c ts q is loaded = rw (loaded, is) refl
+
+-- all behind the query is well
+pub rest_well : (told : Option Files) (script : List ℕ) (c : Checked) (ts : List Table) (q : Rel) → IfSome told (λ (files : Files). tables_behind None files script c ≡ Ok ts) → built c ts ≡ Ok q
+    → IfSome told (λ (files : Files). with_query None files script c ≡ Ok (record { checked = c; tables = ts; final_query = q }))
+rest_well told script c ts q loaded is = if_told told _ _ (λ files. rest_in files script c ts q is) loaded
 
 -- ---- the query
 
@@ -106,14 +192,12 @@ query_due files query script s (inr (false, blames, is)) = inr (None, tt, inl is
 query_names : (files : Files) (query : List ℕ) (s : Status) (name : List ℕ) → IsOfPart place.Query s → NamesDeclared files query s name
 query_names files query (status.Read place.Query why) name of_part = tt
 query_names files query (status.Query why) name of_part = tt
-query_names files query status.NotYet name of_part = tt
 query_names files query status.Memory name of_part = tt
 query_names files query s name of_part = absurd of_part
 
 query_count : (told_after : Option Files) (rose : List ℕ → Type 0) (query script table : List ℕ) (s : Status) → IsOfPart place.Query s → RoseWhere told_after (rose query) s → RoseWhere told_after (rose (file_of_status query script table s)) s
 query_count told_after rose query script table (status.Read place.Query why) of_part count = count
 query_count told_after rose query script table (status.Query why) of_part count = tt
-query_count told_after rose query script table status.NotYet of_part count = tt
 query_count told_after rose query script table status.Memory of_part count = tt
 query_count told_after rose query script table s of_part count = absurd of_part
 

@@ -17,7 +17,6 @@ use Rattle.castor_cli.specs.declared.status.Status.TheVariants as status
 use Rattle.castor_cli.specs.Causes.{IsOfPart, PartRefused, ReadsQuery, RoseWhere, Stands}
 use Rattle.castor_cli.specs.Preparation.{IsQueryIn, readable, text_limit}
 use Rattle.castor_cli.specs.Query.{IsQuery, ReadsText, ReadsTree, Unparsed, is_unchecked, is_unparsed}
-use Rattle.castor_cli.specs.Served.{is_served}
 use Rattle.castor_cli.proofs.Reading.{readable_well}
 use Rattle.castor_cli.proofs.Tables.{if_told}
 
@@ -58,13 +57,12 @@ unchecked_by : (text : List ℕ) (file : File) (s : Status) → IsParsed text fi
 unchecked_by text file s parsed (why, is, h) = rw is (tree_unchecked text file why parsed h)
 
 refused_tree : (text : List ℕ) (file : File) (s : Status) → IsParsed text file → ReadsTree file (Err s) → ReadsText text (Err s)
-refused_tree text file status.NotYet parsed (c, is, unserved) = (c, (file, parsed, is), unserved)
 refused_tree text file status.Memory parsed h = tt
 refused_tree text file s parsed h = unchecked_by text file s parsed h
 
 -- a tree was read, and this is what it says
 pub reads_tree : (text : List ℕ) (file : File) (r : Result Checked Status) → IsParsed text file → ReadsTree file r → ReadsText text r
-reads_tree text file (Ok c) parsed (is, served) = ((file, parsed, is), served)
+reads_tree text file (Ok c) parsed is = (file, parsed, is)
 reads_tree text file (Err s) parsed h = refused_tree text file s parsed h
 
 -- ---- the file
@@ -77,13 +75,11 @@ query_well told query text c stands is = if_told told _ _ (λ files s. rw (reada
 text_of_part : (text : List ℕ) (s : Status) → ReadsText text (Err s) → IsOfPart place.Query s
 text_of_part text status.Memory h = tt
 text_of_part text (status.Query why) h = tt
-text_of_part text status.NotYet h = tt
 text_of_part text s h = absurd h
 
 text_counts : (told_after : Option Files) (rose : Type 0) (text : List ℕ) (s : Status) → ReadsText text (Err s) → RoseWhere told_after rose s
 text_counts told_after rose text status.Memory h = tt
 text_counts told_after rose text (status.Query why) h = tt
-text_counts told_after rose text status.NotYet h = tt
 text_counts told_after rose text s h = absurd h
 
 said : (files : Files) (query text : List ℕ) (s : Status) → Stands text_limit text (files query) → IsQuery text (Err s)
@@ -95,7 +91,6 @@ text_due : (files : Files) (query text : List ℕ) (s : Status) → ReadsText te
 text_due files query text status.Memory is stands = inl refl
 text_due files query text (status.Query (fault.Parse why)) is stands = said files query text _ stands is
 text_due files query text (status.Query (fault.Schema why)) is stands = said files query text _ stands is
-text_due files query text status.NotYet is stands = said files query text _ stands is
 text_due files query text s is stands = absurd is
 
 -- the text of the query was read, and is refused

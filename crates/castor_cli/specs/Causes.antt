@@ -1,5 +1,5 @@
 -- Why a run stopped before it read its input.
-use Rattle.std.specs.Prelude.{◌≡◌, ◌⊎◌, ℕ, zero, suc, ◌+◌, ◌≤◌, ◌++◌, List, [], ◌∷◌, length, Bool, true, false, Option, Some, None, Result, Ok, Err, All, IfSome}
+use Rattle.std.specs.Prelude.{map, ◌≡◌, ◌⊎◌, ℕ, zero, suc, ◌+◌, ◌≤◌, ◌++◌, List, [], ◌∷◌, length, Bool, true, false, Option, Some, None, Result, Ok, Err, All, IfSome}
 use Rattle.std.specs.declared.vec.Vec.{Vec}
 use Rattle.std.specs.declared.alloc.Global.{Global}
 use Rattle.castor_base.specs.Files.{Files}
@@ -9,13 +9,17 @@ use Rattle.castor_val.specs.declared.table.Table.{Table}
 use Rattle.castor_schema.specs.declared.checked.Checked.{Checked}
 use Rattle.castor_schema.specs.declared.checked.Declared.{Declared}
 use Rattle.castor_cli.specs.declared.preparation.Prepared.{Prepared}
+use Rattle.castor_cli.specs.declared.preparation.Rest.{Rest}
 use Rattle.castor_cli.specs.declared.preparation.Stop.{Stop}
 use Rattle.castor_cli.specs.declared.status.Place.{Place}
 use Rattle.castor_cli.specs.declared.status.Place.TheVariants as place
 use Rattle.castor_cli.specs.declared.status.ReadFault.TheVariants as fault
 use Rattle.castor_cli.specs.declared.status.Status.{Status}
 use Rattle.castor_cli.specs.declared.status.Status.TheVariants as status
-use Rattle.castor_cli.specs.Preparation.{Broken, IsPrepared, IsQueryIn, query_fails, readable, script_in, table_in, tables_in, with_query}
+use Rattle.castor_alg.specs.Fits.{tables_fit}
+use Rattle.castor_schema.specs.WellTyped.{IsClosed, IsWellTyped, column_types_of, context_of}
+use Rattle.castor_cli.specs.Building.{MeansSame}
+use Rattle.castor_cli.specs.Preparation.{Broken, IsPrepared, IsQueryIn, query_fails, readable, script_in, table_in, tables_behind, tables_in, with_query}
 use Rattle.castor_cli.specs.Status.{table_file}
 
 -- the status of a file that can't be read
@@ -90,6 +94,25 @@ pub record IsSmall (c : Checked) : Type 0 where
   pub narrow : AreNarrow c.tables
   pub params : length c.params ≤ 16
 
+-- the query of a checked one is closed and well typed, over few tables and parameters
+pub record IsSound (c : Checked) : Type 0 where
+  pub small : IsSmall c
+  pub typed : IsWellTyped c
+  pub closed : IsClosed c
+
+-- tables behind others have rows of the types that their declarations give them
+abbrev pub FitBehind : List Declared → List Table → List Table → Type 0
+FitBehind ds old new = (ts : List Table) × (new ≡ old ++ ts) × (tables_fit ts (map (λ (d : Declared). column_types_of d.columns) ds) ≡ true)
+
+-- tables have rows of the types that the declarations give them
+abbrev pub TablesFit : Checked → List Table → Type 0
+TablesFit c ts = tables_fit ts (context_of c).tables ≡ true
+
+-- the final query answers what the checked one asks, over few parameters
+pub record IsAnswerable (p : Prepared) : Type 0 where
+  pub small : IsSmall p.checked
+  pub same : MeansSame p.checked p.tables p.final_query
+
 -- the file is there, with these bytes, within the limit
 abbrev pub Stands : ℕ → List ℕ → Option (List ℕ) → Type 0
 Stands limit bytes file = (file ≡ Some bytes) × (length bytes ≤ limit)
@@ -120,7 +143,6 @@ IsOfTable number s = ⊥
 abbrev pub IsOfPart : Place → Status → Type 0
 IsOfPart place.Query (status.Read place.Query why) = Unit {0}
 IsOfPart place.Query (status.Query why) = Unit {0}
-IsOfPart place.Query status.NotYet = Unit {0}
 IsOfPart place.Script (status.Read place.Script why) = Unit {0}
 IsOfPart place.Script status.NotYet = Unit {0}
 IsOfPart p status.Memory = Unit {0}
@@ -182,6 +204,8 @@ IsRefusal (status.Read place.Script why) = Unit {0}
 IsRefusal (status.Read (place.Table i) why) = Unit {0}
 IsRefusal (status.Query why) = Unit {0}
 IsRefusal (status.Table i why) = Unit {0}
+IsRefusal (status.Script why) = Unit {0}
+IsRefusal (status.Build why) = Unit {0}
 IsRefusal status.NotYet = Unit {0}
 IsRefusal status.Memory = Unit {0}
 IsRefusal s = ⊥
@@ -196,9 +220,14 @@ pub record RestRefused (told told_after : Option Files) (rose : List ℕ → Typ
   pub due : IfSome told (λ (files : Files). IsDueLater (λ broken. with_query broken files script c) s)
   pub speaks : SpeaksOf told_after rose query script c.tables s
 
--- what preparing the rest of a checked query gives
-abbrev pub PreparesRest : Option Files → Option Files → (List ℕ → Type 0) → List ℕ → List ℕ → Checked → Result (List Table) Status → Type 0
-PreparesRest told told_after rose query script c (Ok ts) = IfSome told (λ (files : Files). with_query None files script c ≡ Ok (record { checked = c; tables = ts }))
+-- what preparing the tables of a checked query gives
+abbrev pub PreparesTables : Option Files → Option Files → (List ℕ → Type 0) → List ℕ → List ℕ → Checked → Result (List Table) Status → Type 0
+PreparesTables told told_after rose query script c (Ok ts) = IfSome told (λ (files : Files). tables_behind None files script c ≡ Ok ts)
+PreparesTables told told_after rose query script c (Err s) = RestRefused told told_after rose query script c s
+
+-- what preparing all behind a checked query gives
+abbrev pub PreparesRest : Option Files → Option Files → (List ℕ → Type 0) → List ℕ → List ℕ → Checked → Result Rest Status → Type 0
+PreparesRest told told_after rose query script c (Ok rest) = IfSome told (λ (files : Files). with_query None files script c ≡ Ok (record { checked = c; tables = rest.tables; final_query = rest.final_query }))
 PreparesRest told told_after rose query script c (Err s) = RestRefused told told_after rose query script c s
 
 -- a status that ends the preparation

@@ -1,7 +1,10 @@
+pub mod After
 pub mod Answers
+pub mod Building
 pub mod Causes
 pub mod Commands
 pub mod Complete
+pub mod Faults
 pub mod Gives
 pub mod Lines
 pub mod Outcome
@@ -11,6 +14,5 @@ pub mod Puts
 pub mod Query
 pub mod Replies
 pub mod Script
-pub mod Served
 pub mod Status
 pub mod Telling

@@ -13,14 +13,11 @@ use Rattle.castor_cli.specs.declared.status.ReadFault.TheVariants as fault
 use Rattle.castor_cli.specs.declared.status.Status.{Status}
 use Rattle.castor_cli.specs.declared.status.Status.TheVariants as status
 use Rattle.castor_cli.specs.declared.preparation.Prepared.{Prepared}
+use Rattle.castor_cli.specs.After.{after}
+use Rattle.castor_cli.specs.Building.{built}
 use Rattle.castor_cli.specs.Query.{IsQuery}
 use Rattle.castor_cli.specs.Script.{are_finish}
 use Rattle.castor_cli.specs.Status.{table_file}
-
--- an answer, and then what it is needed for; the first refusal is the refusal of the whole
-abbrev pub after : {A B : Type 0} → Result A Status → (A → Result B Status) → Result B Status
-after (Ok a) next = next a
-after (Err why) next = Err why
 
 -- what a run's devices did: the place that failed, if one did
 abbrev pub Broken : Type 0
@@ -93,14 +90,20 @@ Says (Err why) says r = r ≡ Err why
 abbrev pub IsQueryIn : Bool → Files → List ℕ → Result Checked Status → Type 0
 IsQueryIn fails files query r = Says (readable fails place.Query text_limit (files query)) IsQuery r
 
--- the script, and then the tables, of a checked query
-abbrev pub with_query : Broken → Files → List ℕ → Checked → Result Prepared Status
-with_query broken files script c =
-    after (script_in (script_fails broken) files script) (λ done.
-    after (tables_in (failing_table broken) files 0 c.tables) (λ ts. Ok (record { checked = c; tables = ts })))
+-- the tables of a checked query, where the script can be read and is the one that is built yet
+abbrev pub tables_behind : Broken → Files → List ℕ → Checked → Result (List Table) Status
+tables_behind broken files script c = after (script_in (script_fails broken) files script) (λ done. tables_in (failing_table broken) files 0 c.tables)
 
--- The query, the script and the tables, each read and then checked, in this order: what is ready then, or the
--- first refusal.
+-- a checked query with its tables and its final query
+abbrev pub ready_with : Checked → List Table → Result Prepared Status
+ready_with c ts = after (built c ts) (λ final. Ok (record { checked = c; tables = ts; final_query = final }))
+
+-- the script, then the tables, and then the final query, of a checked query
+abbrev pub with_query : Broken → Files → List ℕ → Checked → Result Prepared Status
+with_query broken files script c = after (tables_behind broken files script c) (ready_with c)
+
+-- The query, the script and the tables, each read and then checked, and then the final query, in this order: what is
+-- ready then, or the first refusal.
 abbrev pub IsPrepared : Broken → Files → List ℕ → List ℕ → Result Prepared Status → Type 0
 IsPrepared broken files query script (Ok p) = (c : Checked) × IsQueryIn (query_fails broken) files query (Ok c) × (with_query broken files script c ≡ Ok p)
 IsPrepared broken files query script (Err s) = IsQueryIn (query_fails broken) files query (Err s) ⊎ ((c : Checked) × IsQueryIn (query_fails broken) files query (Ok c) × (with_query broken files script c ≡ Err s))

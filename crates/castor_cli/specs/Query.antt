@@ -1,4 +1,4 @@
--- What the text of a query file says: a checked query that is answered yet, or a refusal.
+-- What the text of a query file says: a checked query, or a refusal.
 use Rattle.std.specs.Prelude.{◌≡◌, ◌⊎◌, ℕ, List, Bool, true, false, Result, Ok, Err}
 use Rattle.castor_parse.specs.declared.query.ParseError.{ParseError}
 use Rattle.castor_parse.specs.declared.query.ParseError.TheVariants as parse
@@ -8,7 +8,6 @@ use Rattle.castor_schema.specs.declared.checked.Checked.{Checked}
 use Rattle.castor_schema.specs.declared.error.SchemaError.{SchemaError}
 use Rattle.castor_schema.specs.declared.error.SchemaError.TheVariants as schema
 use Rattle.castor_schema.specs.Check.{checked}
-use Rattle.castor_cli.specs.Served.{is_served}
 use Rattle.castor_cli.specs.declared.status.QueryFault.TheVariants as fault
 use Rattle.castor_cli.specs.declared.status.Status.{Status}
 use Rattle.castor_cli.specs.declared.status.Status.TheVariants as status
@@ -27,16 +26,11 @@ abbrev pub IsUnchecked : List ℕ → SchemaError → Type 0
 IsUnchecked text schema.Memory = ⊥
 IsUnchecked text why = ChecksTo text (Err why)
 
--- the text is a checked query that isn't answered yet
-abbrev pub IsUnserved : List ℕ → Type 0
-IsUnserved text = (c : Checked) × ChecksTo text (Ok c) × (is_served c.query ≡ false)
-
 -- what a text says
 abbrev pub IsQuery : List ℕ → Result Checked Status → Type 0
-IsQuery text (Ok c) = ChecksTo text (Ok c) × (is_served c.query ≡ true)
+IsQuery text (Ok c) = ChecksTo text (Ok c)
 IsQuery text (Err (status.Query (fault.Parse why))) = IsUnparsed text why
 IsQuery text (Err (status.Query (fault.Schema why))) = IsUnchecked text why
-IsQuery text (Err status.NotYet) = IsUnserved text
 IsQuery text (Err s) = ⊥
 
 -- the status of a text that isn't parsed
@@ -55,8 +49,7 @@ Unparsed text s = (why : ParseError) × (s ≡ is_unparsed why) × IsRefused tex
 
 -- what a tree says, or want of memory
 abbrev pub ReadsTree : File → Result Checked Status → Type 0
-ReadsTree file (Ok c) = (checked file ≡ Ok c) × (is_served c.query ≡ true)
-ReadsTree file (Err status.NotYet) = (c : Checked) × (checked file ≡ Ok c) × (is_served c.query ≡ false)
+ReadsTree file (Ok c) = checked file ≡ Ok c
 ReadsTree file (Err s) = (why : SchemaError) × (s ≡ is_unchecked why) × ((why ≡ schema.Memory) ⊎ (checked file ≡ Err why))
 
 -- what reading a text gives: what it says, or want of memory

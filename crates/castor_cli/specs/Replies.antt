@@ -9,20 +9,7 @@ use Rattle.castor_val.specs.Fields.{value_text}
 use Rattle.castor_alg.specs.declared.out.Out.{Out}
 use Rattle.castor_load.specs.Rows.{names_of}
 use Rattle.castor_load.specs.Words.{default_writer, row_text}
-
--- the name of a kind of fault, where the set has it
-abbrev pub name_if : Bool → List ℕ → List (List ℕ)
-name_if true name = name ∷ []
-name_if false name = []
-
-abbrev pub comma_separated : List (List ℕ) → List ℕ
-comma_separated [] = []
-comma_separated (name ∷ []) = name
-comma_separated (name ∷ next ∷ more) = name ++ codes "," ++ comma_separated (next ∷ more)
-
--- the kinds of a set of faults
-abbrev pub kinds_text : Faults → List ℕ
-kinds_text f = comma_separated (name_if f.division (codes "division") ++ name_if f.overflow (codes "overflow") ++ name_if f.norows (codes "norows"))
+use Rattle.castor_cli.specs.Faults.{kinds_text}
 
 abbrev pub fault_line : Faults → List ℕ
 fault_line f = codes "fault " ++ kinds_text f ++ codes "\n"

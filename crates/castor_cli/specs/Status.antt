@@ -7,14 +7,22 @@ use Rattle.castor_parse.specs.declared.query.ParseError.{ParseError}
 use Rattle.castor_parse.specs.declared.query.ParseError.TheVariants as parse
 use Rattle.castor_schema.specs.declared.error.SchemaError.{SchemaError}
 use Rattle.castor_schema.specs.declared.error.SchemaError.TheVariants as schema
+use Rattle.castor_script.specs.declared.step_error.StepError.TheVariants as step
+use Rattle.castor_stage.specs.declared.stage_error.StageError.{StageError}
+use Rattle.castor_stage.specs.declared.stage_error.StageError.TheVariants as stage
+use Rattle.castor_cli.specs.declared.status.BuildFault.{BuildFault}
+use Rattle.castor_cli.specs.declared.status.BuildFault.TheVariants as build
 use Rattle.castor_cli.specs.declared.status.Place.{Place}
 use Rattle.castor_cli.specs.declared.status.Place.TheVariants as place
 use Rattle.castor_cli.specs.declared.status.QueryFault.{QueryFault}
 use Rattle.castor_cli.specs.declared.status.QueryFault.TheVariants as query
 use Rattle.castor_cli.specs.declared.status.ReadFault.{ReadFault}
 use Rattle.castor_cli.specs.declared.status.ReadFault.TheVariants as fault
+use Rattle.castor_cli.specs.declared.status.ScriptFault.{ScriptFault}
+use Rattle.castor_cli.specs.declared.status.ScriptFault.TheVariants as script
 use Rattle.castor_cli.specs.declared.status.Status.{Status}
 use Rattle.castor_cli.specs.declared.status.Status.TheVariants as status
+use Rattle.castor_cli.specs.Faults.{kinds_text}
 
 abbrev pub code_of : Status → ℕ
 code_of status.Ok = 0
@@ -22,7 +30,9 @@ code_of status.Usage = 2
 code_of (status.Read p why) = 3
 code_of (status.Write p) = 4
 code_of (status.Query why) = 5
+code_of (status.Script why) = 6
 code_of (status.Table i why) = 7
+code_of (status.Build why) = 9
 code_of status.TooLong = 10
 code_of status.Memory = 11
 code_of status.NotYet = 12
@@ -76,6 +86,25 @@ abbrev pub query_line : QueryFault → List ℕ
 query_line (query.Parse why) = parse_line why
 query_line (query.Schema why) = schema_line why
 
+-- the line for a script with a step that is refused
+abbrev pub script_line : ScriptFault → List ℕ
+script_line (script.Refused index step.TooLarge) = in_a_row (codes "castor: script: step " ∷ decimal index ∷ codes ": too large\n" ∷ [])
+script_line (script.Refused index step.Memory) = codes "castor: memory\n"
+
+-- the line for a part of a query that is computed too early or too late
+abbrev pub stage_line : StageError → List ℕ
+stage_line stage.TableAtRun = codes "castor: build: table at run\n"
+stage_line stage.JoinAtRun = codes "castor: build: join at run\n"
+stage_line stage.ParamAtBuild = codes "castor: build: parameter at build\n"
+stage_line stage.RunScopeAtBuild = codes "castor: build: run scope at build\n"
+stage_line stage.BuildScopeAtRun = codes "castor: build: build scope at run\n"
+
+-- the line for a query of which no database is built
+abbrev pub build_line : BuildFault → List ℕ
+build_line build.OrderLost = codes "castor: build: order lost\n"
+build_line (build.Stage why) = stage_line why
+build_line (build.Faults f) = in_a_row (codes "castor: build: faults " ∷ kinds_text f ∷ codes "\n" ∷ [])
+
 abbrev pub fault_end : ReadFault → List ℕ
 fault_end fault.Absent = codes ": absent\n"
 fault_end fault.TooLong = codes ": too long\n"
@@ -88,7 +117,9 @@ error_text words table status.Usage = codes "castor: usage: answer QUERY SCRIPT,
 error_text words table (status.Read p why) = codes "castor: read " ++ place_name words table p ++ fault_end why
 error_text words table (status.Write p) = codes "castor: write " ++ place_name words table p ++ codes ": failed\n"
 error_text words table (status.Query why) = query_line why
+error_text words table (status.Script why) = script_line why
 error_text words table (status.Table i why) = table_line table why
+error_text words table (status.Build why) = build_line why
 error_text words table status.TooLong = codes "castor: input: too long\n"
 error_text words table status.Memory = codes "castor: memory\n"
 error_text words table status.NotYet = codes "castor: not yet\n"

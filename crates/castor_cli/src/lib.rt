@@ -2,6 +2,8 @@
 #![tactic(auto)]
 
 mod answers;
+mod build_line;
+mod building;
 mod command;
 mod lines;
 mod preparation;
@@ -9,7 +11,6 @@ mod query;
 mod query_line;
 mod reply;
 mod script;
-mod served;
 mod status;
 mod telling;
 mod top;
@@ -17,5 +18,5 @@ mod top;
 pub use answers::PrintError;
 pub use command::{Command, command_in};
 pub use preparation::{Prepared, Stop};
-pub use status::{Place, QueryFault, ReadFault, Status};
+pub use status::{BuildFault, Place, QueryFault, ReadFault, ScriptFault, Status};
 pub use top::{castor, castor_uncounted};

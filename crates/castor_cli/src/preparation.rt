@@ -1,17 +1,22 @@
-//! What is made ready before the input is read: the checked query and its tables.
+//! What is made ready before the input is read: the checked query, its tables and the final query.
 
-ghost use Rattle.std.specs.Prelude.{◌≡◌, ◌≤◌, ◌+◌, ◌∷◌, List, ℕ, [], IfErr, IfOk, IfSome, length, string_bytes};
+ghost use Rattle.std.specs.Prelude.{◌≡◌, ◌≤◌, ◌+◌, ◌∷◌, List, ℕ, [], IfErr, IfOk, IfSome, OnOk, length, string_bytes, true};
 ghost use Rattle.castor_base.specs.Causes.{Rose};
 ghost use Rattle.castor_base.specs.Files.{SameFiles};
 ghost use Rattle.castor_load.specs.Rows.{table_of};
-ghost use Rattle.castor_cli.specs.Causes.{AreNarrow, IsSmall, LoadsAll, LoadsOne, NamesTable, Prepares, PreparesRest, ReadsFile, ReadsQuery, ReadsScript, items_of, nth_name, read_status};
+ghost use Rattle.castor_val.specs.Values.{table_fits};
+ghost use Rattle.castor_schema.specs.WellTyped.{column_types_of};
+ghost use Rattle.castor_cli.specs.Building.{MeansSame};
+ghost use Rattle.castor_cli.specs.Causes.{AreNarrow, FitBehind, IsAnswerable, IsSmall, IsSound, LoadsAll, LoadsOne, NamesTable, Prepares, PreparesRest, PreparesTables, ReadsFile, ReadsQuery, ReadsScript, TablesFit, items_of, nth_name, read_status};
 ghost use Rattle.castor_cli.specs.Gives.{GivesStatus};
 ghost use Rattle.castor_cli.specs.Preparation.{if_loaded};
 ghost use Rattle.castor_cli.specs.Status.{table_file};
 
+use crate::building::build;
 use crate::query::read_query;
 use crate::script::is_finish_script;
 use crate::status::{Place, ReadFault, Status};
+use castor_alg::Rel;
 use castor_base::{Shelf, ShelfError};
 use castor_load::{LoadError, load};
 use castor_schema::{Checked, Declared};
@@ -24,11 +29,20 @@ const TEXT_LIMIT: u64 = 1_048_576;
 
 const TABLE_LIMIT: u64 = 268_435_456;
 
-/// A checked query, and its tables in the order of their declarations.
+/// A checked query, its tables in the order of their declarations, and the final query, which is
+/// answered in its place.
 #[derive(Drop)]
 pub struct Prepared {
     pub checked: Checked,
     pub tables: Items<Table>,
+    pub final_query: Rel,
+}
+
+/// What stands behind a checked query: its tables and the final query.
+#[derive(Drop)]
+pub struct Rest {
+    pub tables: Items<Table>,
+    pub final_query: Rel,
 }
 
 /// Why a command ended, and the name of the table that the status speaks of, if it is one's.
@@ -123,7 +137,8 @@ fn table_file(alloc: Global, table: &str) -> Result<String, Memory>
 // The rows of a table's file.
 fn load_rows(alloc: Global, number: u32, declared: &Declared, bytes: &[u8]) -> Result<Table, Status>
     requires { length declared.now.columns ≤ 64 }
-    ensures { GivesStatus (λ t. t) (if_loaded number (table_of declared.now.columns bytes.now)) result }
+    ensures exact { GivesStatus (λ t. t) (if_loaded number (table_of declared.now.columns bytes.now)) result }
+    ensures fits { IfOk result (λ t. table_fits t (column_types_of declared.now.columns) ≡ true) }
 {
     match load(alloc, declared.columns.as_slice(), bytes) {
         Ok(rows) => Ok(rows),
@@ -145,6 +160,7 @@ fn load_table<S: Shelf>(
     ensures loads { LoadsOne (S.files shelf.old) (S.files shelf.new)
         (Rose (S.read_faults shelf.old (table_file declared.now.name)) (S.read_faults shelf.new (table_file declared.now.name)))
         number declared.now result }
+    ensures fits { IfOk result (λ t. table_fits t (column_types_of declared.now.columns) ≡ true) }
 {
     let Ok(file) = table_file(alloc, declared.name.as_str()) else {
         return Err(Status::Memory);
@@ -175,6 +191,7 @@ fn load_tables<S: Shelf>(
     ensures reads { (n : List ℕ) → S.read_faults shelf.old n ≤ S.read_faults shelf.new n }
     ensures loads { LoadsAll (S.files shelf.old) (S.files shelf.new) (λ name. Rose (S.read_faults shelf.old name) (S.read_faults shelf.new name))
         number declared.now tables.old tables.new result }
+    ensures fits { OnOk result (FitBehind declared.now tables.old tables.new) }
 {
     match declared {
         [] => Ok(()),
@@ -211,7 +228,7 @@ fn read_checked<S: Shelf>(alloc: Global, shelf: &mut S, query: &str) -> Result<C
     ensures reads { (n : List ℕ) → S.read_faults shelf.old n ≤ S.read_faults shelf.new n }
     ensures reading { ReadsQuery (S.files shelf.old) (S.files shelf.new)
         (Rose (S.read_faults shelf.old query.now) (S.read_faults shelf.new query.now)) query.now result }
-    ensures small { IfOk result IsSmall }
+    ensures sound { IfOk result IsSound }
 {
     match read_file(alloc, shelf, Place::Query, query, TEXT_LIMIT) {
         Ok(text) => read_query(alloc, &text),
@@ -219,7 +236,7 @@ fn read_checked<S: Shelf>(alloc: Global, shelf: &mut S, query: &str) -> Result<C
     }
 }
 
-// Reads the script and the tables of a checked query.
+// Reads the script and then the tables of a checked query.
 fn prepare_tables<S: Shelf>(
     alloc: Global,
     shelf: &mut S,
@@ -230,8 +247,9 @@ fn prepare_tables<S: Shelf>(
     requires { IsSmall checked.now }
     ensures same { SameFiles (S.files shelf.old) (S.files shelf.new) }
     ensures reads { (n : List ℕ) → S.read_faults shelf.old n ≤ S.read_faults shelf.new n }
-    ensures rest { PreparesRest (S.files shelf.old) (S.files shelf.new) (λ name. Rose (S.read_faults shelf.old name) (S.read_faults shelf.new name))
+    ensures tables { PreparesTables (S.files shelf.old) (S.files shelf.new) (λ name. Rose (S.read_faults shelf.old name) (S.read_faults shelf.new name))
         query.now script.now checked.now result }
+    ensures fit { IfOk result (TablesFit checked.now) }
 {
     match read_steps(alloc, shelf, script) {
         Ok(()) => {
@@ -241,6 +259,33 @@ fn prepare_tables<S: Shelf>(
                 Err(status) => Err(status),
             }
         }
+        Err(status) => Err(status),
+    }
+}
+
+// Reads the script and then the tables of a checked query, and makes its final query.
+fn prepare_rest<S: Shelf>(
+    alloc: Global,
+    shelf: &mut S,
+    query: &str,
+    script: &str,
+    checked: &Checked,
+) -> Result<Rest, Status>
+    requires { IsSound checked.now }
+    ensures same { SameFiles (S.files shelf.old) (S.files shelf.new) }
+    ensures reads { (n : List ℕ) → S.read_faults shelf.old n ≤ S.read_faults shelf.new n }
+    ensures rest { PreparesRest (S.files shelf.old) (S.files shelf.new) (λ name. Rose (S.read_faults shelf.old name) (S.read_faults shelf.new name))
+        query.now script.now checked.now result }
+    ensures means { IfOk result (λ rest. MeansSame checked.now rest.tables rest.final_query) }
+{
+    match prepare_tables(alloc, shelf, query, script, checked) {
+        Ok(tables) => match build(alloc, checked, tables.as_slice()) {
+            Ok(final_query) => Ok(Rest {
+                tables,
+                final_query,
+            }),
+            Err(status) => Err(status),
+        },
         Err(status) => Err(status),
     }
 }
@@ -261,10 +306,26 @@ fn into_tables(checked: Checked) -> Items<Declared>
     tables
 }
 
-/// Reads and checks the query, then the script, and then reads and loads the tables, in this order.
+// A checked query and what stands behind it.
+fn with_rest(checked: Checked, rest: Rest) -> Prepared
+    ensures { result ≡ record { checked = checked; tables = rest.tables; final_query = rest.final_query } }
+{
+    let Rest {
+        tables,
+        final_query,
+    } = rest;
+    Prepared {
+        checked,
+        tables,
+        final_query,
+    }
+}
+
+/// Reads and checks the query, then the script, then reads and loads the tables, and then makes the final
+/// query, in this order.
 ///
 /// The stop has the first refusal in that order, or `Memory`. No file changes. Linear in the bytes
-/// that are read.
+/// that are read, and what making the final query costs.
 pub fn prepare<S: Shelf>(
     alloc: Global,
     shelf: &mut S,
@@ -274,11 +335,11 @@ pub fn prepare<S: Shelf>(
     ensures same { SameFiles (S.files shelf.old) (S.files shelf.new) }
     ensures prepares { Prepares (S.files shelf.old) (S.files shelf.new) (λ name. Rose (S.read_faults shelf.old name) (S.read_faults shelf.new name))
         query.now script.now result }
-    ensures small { IfOk result (λ p. IsSmall p.checked) }
+    ensures answerable { IfOk result IsAnswerable }
 {
     match read_checked(alloc, shelf, query) {
-        Ok(checked) => match prepare_tables(alloc, shelf, query, script, &checked) {
-            Ok(tables) => Ok(Prepared { checked, tables }),
+        Ok(checked) => match prepare_rest(alloc, shelf, query, script, &checked) {
+            Ok(rest) => Ok(with_rest(checked, rest)),
             Err(status) => Err(Stop::about(alloc, into_tables(checked), status)),
         },
         Err(status) => Err(Stop::new(alloc, status)),

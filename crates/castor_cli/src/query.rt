@@ -1,12 +1,11 @@
 //! The query that a command is about.
 
 ghost use Rattle.std.specs.Prelude.{◌≡◌, IfErr, IfOk};
-ghost use Rattle.castor_cli.specs.Causes.{IsSmall};
+ghost use Rattle.castor_cli.specs.Causes.{IsSound};
 ghost use Rattle.castor_cli.specs.Query.{ReadsText, ReadsTree, Unparsed, is_unchecked, is_unparsed};
 ghost use Rattle.castor_parse.specs.Formed.{IsFormed};
 ghost use Rattle.castor_parse.specs.Parsed.{IsParsed};
 
-use crate::served::is_served;
 use crate::status::{QueryFault, Status};
 use castor_parse::{File, ParseError, parse};
 use castor_schema::{Checked, SchemaError, check};
@@ -44,29 +43,23 @@ fn read_tree(alloc: Global, text: &[u8]) -> Result<File, Status>
     }
 }
 
-// What a tree says, where it is answered yet.
+// What a tree says.
 fn check_tree(alloc: Global, file: File) -> Result<Checked, Status>
     requires { IsFormed file }
     ensures reads { ReadsTree file result }
-    ensures small { IfOk result IsSmall }
+    ensures sound { IfOk result IsSound }
 {
     match check(alloc, &file) {
-        Ok(checked) => {
-            if is_served(&checked.query) {
-                Ok(checked)
-            } else {
-                Err(Status::NotYet)
-            }
-        }
+        Ok(checked) => Ok(checked),
         Err(why) => Err(unchecked(why)),
     }
 }
 
-/// The checked query of a text, or the status of the first refusal: that it isn't parsed, that its
-/// names, numbers or types don't fit, or that it isn't answered yet. Costs what parsing and checking do.
+/// The checked query of a text, or the status of the first refusal: that it isn't parsed, or that
+/// its names, numbers or types don't fit. Costs what parsing and checking do.
 pub fn read_query(alloc: Global, text: &[u8]) -> Result<Checked, Status>
     ensures reads { ReadsText text.now result }
-    ensures small { IfOk result IsSmall }
+    ensures sound { IfOk result IsSound }
 {
     match read_tree(alloc, text) {
         Ok(file) => check_tree(alloc, file),

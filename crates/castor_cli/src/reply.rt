@@ -2,7 +2,8 @@
 
 ghost use Rattle.std.specs.Prelude.{◌≡◌, ◌++◌, IfOk, OnOk, IsTrue};
 ghost use Rattle.castor_load.specs.Written.{IsWriting, text_of};
-ghost use Rattle.castor_cli.specs.Replies.{fault_line, has_fault, head_text, kinds_text, names_record, record_of, reply_text, rows_text};
+ghost use Rattle.castor_cli.specs.Faults.{kinds_text};
+ghost use Rattle.castor_cli.specs.Replies.{fault_line, has_fault, head_text, names_record, record_of, reply_text, rows_text};
 
 use castor_alg::Out;
 use castor_load::RecordWriter;

@@ -6,6 +6,9 @@ ghost use Rattle.castor_cli.specs.Status.{code_of};
 use castor_load::LoadError;
 use castor_parse::ParseError;
 use castor_schema::SchemaError;
+use castor_script::StepError;
+use castor_stage::StageError;
+use castor_val::Faults;
 
 /// What a command reads or writes.
 #[derive(Clone, Copy, Debug, PartialEq, Eq)]
@@ -44,6 +47,24 @@ pub enum QueryFault {
     Schema(SchemaError),
 }
 
+/// Why a script is refused.
+#[derive(Clone, Copy, Debug, PartialEq, Eq)]
+pub enum ScriptFault {
+    /// A step, counted from 0, can't be taken.
+    Refused { index: u64, why: StepError },
+}
+
+/// Why no database is built of a query.
+#[derive(Clone, Copy, Debug, PartialEq, Eq)]
+pub enum BuildFault {
+    /// The rows of the final query aren't known to be in the order that the query's root asks for.
+    OrderLost,
+    /// A part of the final query is computed too early or too late.
+    Stage(StageError),
+    /// What the final query stores has faults.
+    Faults(Faults),
+}
+
 /// How a run ended. `Ok` means that all was done; with any other status one line on the error
 /// output says which it is.
 #[derive(Clone, Copy, Debug, PartialEq, Eq)]
@@ -55,13 +76,17 @@ pub enum Status {
     Write(Place),
     /// Why the query file is refused.
     Query(QueryFault),
+    /// Why the script is refused.
+    Script(ScriptFault),
     /// A table, from 0, and why its file isn't one.
     Table(u32, LoadError),
+    /// Why no database is built of the query.
+    Build(BuildFault),
     /// The input has more than 67,108,864 bytes.
     TooLong,
     /// There was no memory.
     Memory,
-    /// A command, a query or a script is asked for that isn't built yet.
+    /// A command or a script is asked for that isn't built yet.
     NotYet,
 }
 
@@ -76,7 +101,9 @@ impl Status {
             Status::Read(_, _) => 3,
             Status::Write(_) => 4,
             Status::Query(_) => 5,
+            Status::Script(_) => 6,
             Status::Table(_, _) => 7,
+            Status::Build(_) => 9,
             Status::TooLong => 10,
             Status::Memory => 11,
             Status::NotYet => 12,

@@ -7,6 +7,7 @@ ghost use Rattle.castor_base.specs.Moves.{AppendsPrefix};
 ghost use Rattle.castor_cli.specs.Puts.{Puts};
 ghost use Rattle.castor_cli.specs.Status.{error_text, fault_end, in_a_row, place_name, table_line};
 
+use crate::build_line::{put_build_line, put_script_line};
 use crate::query_line::put_query_line;
 use crate::status::{Place, ReadFault, Status};
 use castor_base::{Failed, Sink, put_all, put_pieces};
@@ -192,7 +193,9 @@ fn put_status<'a, E: Sink>(
             put_named(err, b"castor: write ", place, b": failed\n")
         }
         Status::Query(why) => put_query_line(err, why),
+        Status::Script(why) => put_script_line(err, why),
         Status::Table(_, why) => tell_table(err, table, why),
+        Status::Build(why) => put_build_line(err, why),
         Status::TooLong => put_line(err, b"castor: input: too long\n"),
         Status::Memory => put_line(err, b"castor: memory\n"),
         Status::NotYet => put_line(err, b"castor: not yet\n"),

@@ -4,6 +4,8 @@
 #[cfg(test)]
 mod answers;
 #[cfg(test)]
+mod building;
+#[cfg(test)]
 mod failures;
 #[cfg(test)]
 mod limits;

@@ -171,19 +171,3 @@ fn a_refused_query_is_told_by_its_cause(rt: HostRuntime) -> Result<(), Fail> {
     }
     Ok(())
 }
-
-#[test]
-fn a_query_that_may_fault_is_not_answered_yet(rt: HostRuntime) -> Result<(), Fail> {
-    let query =
-        "param n int; query orderby([s desc], groupby([cust], [sum(total) as s], filter(id <= $n, orders)))";
-    let ran = with_query(rt.alloc(), query)?;
-    refused(&rt, &ran, 12, "castor: not yet\n");
-    Ok(())
-}
-
-#[test]
-fn a_join_is_not_answered_yet(rt: HostRuntime) -> Result<(), Fail> {
-    let ran = with_query(rt.alloc(), "query join(true, orders, orders)")?;
-    refused(&rt, &ran, 12, "castor: not yet\n");
-    Ok(())
-}

@@ -1,0 +1,91 @@
+-- The final query of a checked one over its tables, or why none is built.
+use Rattle.std.specs.Prelude.{◌≡◌, ◌==◌, ◌&&◌, List, [], Bool, true, Result, Ok, Err, if◌then◌else◌, not}
+use Rattle.std.specs.List.{starts_with}
+use Rattle.castor_val.specs.declared.fault.Faults.{Faults}
+use Rattle.castor_val.specs.declared.row.Row.{Row}
+use Rattle.castor_val.specs.declared.table.Table.{Table}
+use Rattle.castor_val.specs.Values.{row_fits}
+use Rattle.castor_alg.specs.declared.held.Held.{Held}
+use Rattle.castor_alg.specs.declared.rel.Key.{Key}
+use Rattle.castor_alg.specs.declared.rel.Rel.{Rel, fold-Rel}
+use Rattle.castor_alg.specs.declared.rel.Rel.TheOpen.{Rel-F}
+use Rattle.castor_alg.specs.declared.rel.Rel.TheOpen as rel
+use Rattle.castor_alg.specs.Meaning.{meaning}
+use Rattle.castor_alg.specs.Scopes.{unbound}
+use Rattle.castor_schema.specs.declared.checked.Checked.{Checked}
+use Rattle.castor_schema.specs.WellTyped.{context_of}
+use Rattle.castor_script.specs.declared.step_error.StepError.{StepError}
+use Rattle.castor_script.specs.declared.step_error.StepError.TheVariants as step
+use Rattle.castor_script.specs.Finish.{finish_of}
+use Rattle.castor_script.specs.KnownKeys.{known_keys}
+use Rattle.castor_stage.specs.HeldData.{held_data}
+use Rattle.castor_stage.specs.Stages.{Staged, stage}
+use Rattle.castor_cli.specs.declared.status.BuildFault.TheVariants as build
+use Rattle.castor_cli.specs.declared.status.ScriptFault.TheVariants as script
+use Rattle.castor_cli.specs.declared.status.Status.{Status}
+use Rattle.castor_cli.specs.declared.status.Status.TheVariants as status
+use Rattle.castor_cli.specs.After.{after}
+
+-- the query that the script `finish;` makes of a checked one: its only step may be refused
+abbrev pub if_finished : Result Rel StepError → Result Rel Status
+if_finished (Ok q) = Ok q
+if_finished (Err why) = Err (status.Script (script.Refused 0 why))
+
+-- the status of a step that is refused
+abbrev pub is_unfinished : StepError → Status
+is_unfinished step.TooLarge = status.Script (script.Refused 0 step.TooLarge)
+is_unfinished step.Memory = status.Memory
+
+abbrev pub root_step : Rel-F (List Key) → List Key
+root_step (rel.Table n) = []
+root_step (rel.Scalar e) = []
+root_step (rel.Cross rs) = []
+root_step (rel.Concat rs) = []
+root_step (rel.Select es r) = []
+root_step (rel.Filter e r) = []
+root_step (rel.Join e r s) = []
+root_step (rel.DepJoin k r s) = []
+root_step (rel.Group ks aggs r) = []
+root_step (rel.Order ks r) = ks
+root_step (rel.Dedup r) = []
+root_step (rel.List k r s) = []
+root_step (rel.Hash k r s es) = []
+root_step (rel.Ord k r s lo hi) = []
+
+-- the keys of an `orderby` at the root of a query
+abbrev pub root_keys : Rel → List Key
+root_keys q = fold-Rel (List Key) root_step q
+
+abbrev pub same_key : Key → Key → Bool
+same_key j k = (j.col == k.col) && (if j.desc then k.desc else not k.desc)
+
+-- the order of a query is known to be that of its final query
+abbrev pub keeps_order : Rel → Rel → Bool
+keeps_order q final = starts_with same_key (known_keys final) (root_keys q)
+
+abbrev pub if_ordered : Bool → Rel → Result Rel Status
+if_ordered kept final = if kept then Ok final else Err (status.Build build.OrderLost)
+
+abbrev pub if_staged : Staged → Rel → Result Rel Status
+if_staged (Ok fine) final = Ok final
+if_staged (Err why) final = Err (status.Build (build.Stage why))
+
+abbrev pub if_held : Result Held Faults → Rel → Result Rel Status
+if_held (Ok held) final = Ok final
+if_held (Err f) final = Err (status.Build (build.Faults f))
+
+-- the order of the rows, then what is computed when, and then the stored values of a final query, each checked in this order
+abbrev pub checked_last : Rel → List Table → Rel → Result Rel Status
+checked_last q tables final =
+    after (if_ordered (keeps_order q final) final) (λ ordered.
+    after (if_staged (stage final) final) (λ staged.
+    if_held (held_data final tables) final))
+
+-- the final query of a checked one over its tables, or the first refusal: first that of the script, and then those of
+-- the final query
+abbrev pub built : Checked → List Table → Result Rel Status
+built c tables = after (if_finished (finish_of (context_of c).tables c.query)) (checked_last c.query tables)
+
+-- over these tables the final query means what the checked one does, whatever the parameters of their types are
+abbrev pub MeansSame : Checked → List Table → Rel → Type 0
+MeansSame c tables final = (params : Row) → row_fits params (context_of c).params ≡ true → meaning final tables unbound params ≡ meaning c.query tables unbound params

@@ -1,0 +1,4 @@
+pub mod Binders
+pub mod HeldData
+pub mod Holds
+pub mod Stages

@@ -9,7 +9,7 @@ ghost use Rattle.castor_stage.specs.HeldData.{keys_of};
 
 use crate::source::distinct_rows;
 use castor_alg::{Env, Out, Rel};
-use castor_val::{Memory, Row, Table, Value, compare};
+use castor_val::{Memory, Row, Table, Value};
 use std::alloc::Global;
 use std::cmp::Ordering;
 
@@ -43,18 +43,5 @@ fn sort_ascending(rows: &mut Vec<Row>) -> Result<(), Memory>
 fn compare_values(a: &[Value], b: &[Value]) -> Ordering
     ensures { result ≡ row_cmp a.now b.now }
 {
-    match a {
-        [] => match b {
-            [] => Ordering::Equal,
-            [_, ..] => Ordering::Less,
-        },
-        [x, xs @ ..] => match b {
-            [] => Ordering::Greater,
-            [y, ys @ ..] => match compare(x.cell(), y.cell()) {
-                Ordering::Less => Ordering::Less,
-                Ordering::Equal => compare_values(xs, ys),
-                Ordering::Greater => Ordering::Greater,
-            },
-        },
-    }
+    a.iter().map(Value::cell).cmp(b.iter().map(Value::cell))
 }

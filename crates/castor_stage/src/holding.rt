@@ -5,6 +5,7 @@ ghost use Rattle.castor_val.specs.Values.{value_of};
 ghost use Rattle.castor_alg.specs.Expression.{expr_value};
 ghost use Rattle.castor_alg.specs.Scopes.{bind, scopes_of, unbound};
 ghost use Rattle.castor_stage.specs.HeldData.{held_data, held_under, keyed, leaf, listed, parted, tree_or_faults, within};
+ghost use Rattle.castor_stage.specs.HeldKeys.{HasAscendingKeys};
 ghost use Rattle.castor_stage.specs.Holds.{IsHold};
 
 use crate::held_out::HeldOut;
@@ -31,7 +32,10 @@ use std::alloc::Global;
 /// costs besides that of the order n log n in its distinct rows. Each stored text is copied once from what
 /// the evaluator gives, and those of keys are moved.
 pub fn hold(alloc: Global, q: &Rel, tables: &[Table]) -> Result<Held, HoldError>
-    ensures { IsHold (held_data q.now tables.now) result }
+    ensures data { IsHold (held_data q.now tables.now) result }
+
+    // The keys of each index are distinct and ascend.
+    ensures keys { IfOk result HasAscendingKeys }
 {
     match hold_under(alloc, q, tables, &Env::Empty) {
         Ok(out) => tree_of(out),

@@ -17,10 +17,10 @@ use Rattle.castor_alg.specs.Groups.{grouped}
 use Rattle.castor_alg.specs.Indexes.{compares, hashed, lower, ranged, upper}
 use Rattle.castor_alg.specs.Meaning.{meaning}
 use Rattle.castor_alg.specs.Rows.{concatenated, crossed, depjoined, filtered, selected, single}
-use Rattle.castor_alg.specs.Scopes.{Scopes, bind, unbound}
+use Rattle.castor_alg.specs.Scopes.{Scopes, bind}
 use Rattle.castor_alg.specs.Sorting.{sorted_by}
 use Rattle.castor_alg.proofs.ExprInduction.{expr_induction, fold-Col, fold-Scope, fold-Param, fold-Lit, fold-Bin, fold-Not, fold-If}
-use Rattle.castor_alg.proofs.RelInduction.{With, relations, rel_induction, fold-Table, fold-Scalar, fold-Cross, fold-Concat, fold-Select, fold-Filter, fold-Join, fold-DepJoin, fold-Group, fold-Order, fold-Dedup, fold-List, fold-Hash, fold-Ord}
+use Rattle.castor_alg.proofs.RelInduction.{With, relations, rel_induction, fold-Scalar, fold-Cross, fold-Concat, fold-Select, fold-Filter, fold-Join, fold-DepJoin, fold-Group, fold-Order, fold-Dedup, fold-List, fold-Hash, fold-Ord}
 use Rattle.castor_eval.proofs.MeaningLaws.{meaning-Table, meaning-Scalar, meaning-Cross, meaning-Concat, meaning-Select, meaning-Filter, meaning-Join, meaning-DepJoin, meaning-Group, meaning-Order, meaning-Dedup, meaning-List, meaning-Hash, meaning-Ord}
 use Rattle.castor_stage.specs.declared.phase.Phase.{Phase}
 use Rattle.castor_stage.specs.declared.phase.Phase.TheVariants.{Build, Run}

@@ -1,5 +1,5 @@
 -- What is stored for each operator, over what is stored for its operands.
-use Rattle.std.proofs.Common.{◌≡◌, ◌∙◌, ℕ, List, [], ◌∷◌, map, refl, sym, ap}
+use Rattle.std.proofs.Common.{◌≡◌, ◌∙◌, ℕ, List, [], ◌∷◌, map, refl, ap}
 use Rattle.castor_val.specs.declared.row.Row.{Row}
 use Rattle.castor_val.specs.declared.table.Table.{Table}
 use Rattle.castor_alg.specs.declared.expr.Expr.{Expr}

@@ -1,5 +1,5 @@
 -- Whether the keys ascend in held data of each shape.
-use Rattle.std.proofs.Common.{◌≡◌, ◌∙◌, List, [], ◌∷◌, map, Bool, true, false, ◌&&◌, refl, sym, ap}
+use Rattle.std.proofs.Common.{◌≡◌, ◌∙◌, List, [], ◌∷◌, map, Bool, true, ◌&&◌, refl, sym, ap}
 use Rattle.std.specs.FinMap.Entries.{below_all, is_sorted}
 use Rattle.std.specs.declared.cmp.Ordering.TheVariants.{Less}
 use Rattle.std.specs.List.{AllByRecursion, list_all}
@@ -9,7 +9,7 @@ use Rattle.castor_val.specs.declared.row.Row.{Row}
 use Rattle.castor_val.specs.declared.value.Value.{Value}
 use Rattle.castor_val.specs.Values.{row_cmp}
 use Rattle.castor_alg.specs.declared.held.Entry.{Entry, fold-Entry, fold_out-Entry}
-use Rattle.castor_alg.specs.declared.held.Held.{Held, Leaf, Parts, Rows, Keyed, Inner, fold-Held, fold-roll-Held}
+use Rattle.castor_alg.specs.declared.held.Held.{Held, Leaf, Parts, Rows, Keyed, Inner, fold-roll-Held}
 use Rattle.castor_alg.specs.declared.held.Held.TheVariants.{rolls-Leaf, rolls-Parts, rolls-Rows, rolls-Keyed, rolls-Inner}
 use Rattle.castor_alg.specs.declared.held.Held.TheOpen as F
 use Rattle.castor_stage.specs.HeldKeys.{entry_step, has_ascending_keys, keys_step}

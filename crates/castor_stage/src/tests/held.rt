@@ -71,21 +71,21 @@ fn show_row(text: &mut String, row: &Row) -> Result<(), Fail> {
 // Whether this is held for a query: parts in round brackets, rows in square ones, entries in curly ones,
 // what an operand stores in angles.
 fn holds(alloc: Global, q: MadeRel, tables: &[Table], due: &str) -> Result<bool, Fail> {
-    let q = q?;
-    match hold(alloc, &q, tables) {
-        Ok(held) => {
-            let mut text = String::new(alloc);
-            show(&mut text, &held)?;
-            Ok(text.as_str() == due)
-        }
+    match hold(alloc, &q?, tables) {
+        Ok(held) => is_shown(alloc, &held, due),
         Err(_) => Ok(false),
     }
 }
 
+fn is_shown(alloc: Global, held: &Held, due: &str) -> Result<bool, Fail> {
+    let mut text = String::new(alloc);
+    show(&mut text, held)?;
+    Ok(text.as_str() == due)
+}
+
 // Whether nothing is held for a query, since it has these faults.
 fn faults(alloc: Global, q: MadeRel, tables: &[Table], due: Faults) -> Result<bool, Fail> {
-    let q = q?;
-    match hold(alloc, &q, tables) {
+    match hold(alloc, &q?, tables) {
         Ok(_) => Ok(false),
         Err(why) => Ok(why == HoldError::Faults(due)),
     }

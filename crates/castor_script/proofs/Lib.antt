@@ -1,0 +1,5 @@
+mod KnownKeyLaws
+mod MovedKeyLaws
+mod MovingLaws
+mod ScalarLaws
+mod SortedRowLaws

@@ -1,0 +1,6 @@
+//! What a script makes of a query, and the keys that a query's rows are known to be sorted by.
+#![tactic(auto)]
+
+mod known_keys;
+
+pub use known_keys::{known_keys_are_true, orders};

@@ -93,6 +93,16 @@ fn is_scalar_of(r: &Rel, scope: u32, column: u32) -> bool
     }
 }
 
+// A key for another column, in its direction.
+fn for_column(key: Key, col: u32) -> Key
+    ensures { result ≡ record { col = col; desc = key.desc } }
+{
+    Key {
+        col,
+        desc: key.desc,
+    }
+}
+
 // The place of the first item that is just this column.
 fn column_place(items: &[Expr], column: u32) -> Option<usize>
     ensures { result ≡ position (is_column column) items.now }
@@ -115,10 +125,7 @@ fn move_to_columns(alloc: Global, keys: &[Key], items: &[Expr]) -> Result<Vec<Ke
     let mut kept = Vec::new(alloc);
     for key in keys {
         match column_at(column_place(items, key.col))? {
-            Some(col) => kept.push(Key {
-                col,
-                desc: key.desc,
-            })?,
+            Some(col) => kept.push(for_column(*key, col))?,
             None => return Ok(kept),
         }
     }
@@ -138,10 +145,7 @@ fn move_to_scalars(
     let mut kept = Vec::new(alloc);
     for key in keys {
         match column_at(scalar_place(scalars, scope, key.col))? {
-            Some(col) => kept.push(Key {
-                col,
-                desc: key.desc,
-            })?,
+            Some(col) => kept.push(for_column(*key, col))?,
             None => return Ok(kept),
         }
     }

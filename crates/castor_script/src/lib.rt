@@ -2,5 +2,7 @@
 #![tactic(auto)]
 
 mod known_keys;
+#[cfg(test)]
+mod tests;
 
 pub use known_keys::{known_keys_are_true, orders};

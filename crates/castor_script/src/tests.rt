@@ -1,0 +1,4 @@
+//! Known keys of small relations.
+
+mod known_keys;
+mod trees;

@@ -10,7 +10,8 @@ use Rattle.castor_cli.specs.declared.status.ReadFault.TheVariants as fault
 use Rattle.castor_cli.specs.declared.status.Status.{Status}
 use Rattle.castor_cli.specs.declared.status.Status.TheVariants as status
 use Rattle.castor_cli.specs.Causes.{Refused, RoseWhere, Stands, Unread, read_status}
-use Rattle.castor_cli.specs.Preparation.{after, readable}
+use Rattle.castor_cli.specs.After.{after}
+use Rattle.castor_cli.specs.Preparation.{readable}
 
 -- a read that gave bytes
 pub read_told : (old now : Option Files) (name bytes : List ℕ) (limit : ℕ) → SameFiles old now → ReadFile now name limit bytes → IfSome old (λ (files : Files). Stands limit bytes (files name))

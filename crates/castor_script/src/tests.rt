@@ -1,4 +1,0 @@
-//! Known keys of small relations.
-
-mod known_keys;
-mod trees;

@@ -26,6 +26,13 @@ if_told_later None later P same p = tt
 if_told_later (Some f) None P same p = absurd same
 if_told_later (Some f) (Some g) P same p = subst P (λ i name. same name i) p
 
+-- files that stay the same, and then again
+pub same_again : (told later last : Option Files) → SameFiles told later → SameFiles later last → SameFiles told last
+same_again None later last same again = tt
+same_again (Some f) None last same again = absurd same
+same_again (Some f) (Some g) None same again = absurd again
+same_again (Some f) (Some g) (Some h) same again = λ name. again name ∙ same name
+
 pub both_told : (told : Option Files) (P Q R : Files → Type 0) → ((files : Files) → P files → Q files → R files) → IfSome told P → IfSome told Q → IfSome told R
 both_told None P Q R f p q = tt
 both_told (Some files) P Q R f p q = f files p q

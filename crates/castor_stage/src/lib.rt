@@ -14,8 +14,6 @@ pub mod phase;
 mod source;
 pub mod stage_error;
 pub mod staging;
-#[cfg(test)]
-mod tests;
 
 pub use hold_error::HoldError;
 pub use holding::hold;

@@ -107,8 +107,13 @@ fn scopes_and_indexes_are_answered(rt: HostRuntime) -> Result<(), Fail> {
     let query = "param n int; query depjoin(filter(id <= $n, orders) as o, \
                  select([o.id as first, id as second], filter(cust = o.cust and id > o.id, orders)))";
     let ran = over_orders(rt.alloc(), query, "1\n0\n")?;
-    replies(&rt, &ran, "rows 1\nfirst,second\n1,3\nrows 0\nfirst,second\n");
-    let query = "param c text; query hash(select([cust], orders) as k, filter(cust = k.cust, orders), [$c])";
+    replies(
+        &rt,
+        &ran,
+        "rows 1\nfirst,second\n1,3\nrows 0\nfirst,second\n",
+    );
+    let query =
+        "param c text; query hash(select([cust], orders) as k, filter(cust = k.cust, orders), [$c])";
     let ran = over_orders(rt.alloc(), query, "ann\nzed\n")?;
     replies(
         &rt,

@@ -1,57 +1,48 @@
 -- Fields as code finds them at the front of bytes.
-use Rattle.std.proofs.Common.{◌≡◌, ◌∙◌, ℕ, ◌-◌, ◌<◌, ◌≤◌, nat_le, List, ◌++◌, take, drop, length, Bool, true, false, ◌&&◌, if◌then◌else◌, Option, Some, None, subst, ap, sym, refl, arith}
-use Rattle.std.proofs.lemmas.Bool.{and_from, le-leb, false_from_ne_true, leb-true}
-use Rattle.std.proofs.lemmas.List.{length-take, take_rest}
-use Rattle.std.proofs.lemmas.Slice.Eq.{bytes_eq-Decides}
-use Rattle.std.specs.Str.{bytes_eq}
-use Rattle.byteorder.specs.Endian.{little_bytes, little_number}
+use Rattle.std.proofs.Common.{◌≡◌, ◌∙◌, ℕ, ◌+◌, ◌^◌, ◌<◌, ◌≤◌, List, ◌++◌, length, Option, Some, None, ap, sym, refl, arith, length-append}
+use Rattle.std.proofs.lemmas.Option.{some_pair_parts}
 use Rattle.castor_fixed.specs.Fields.{width, field, number}
-use Rattle.castor_fixed.proofs.FieldLaws.{length-field}
+use Rattle.castor_fixed.proofs.FieldLaws.{below-width, width-least, length-field, number-field, number-taken}
+
+-- the greatest number may be greater where its fields are as wide
+wider : (most n : ℕ) → most < n → n < 256 ^ width most → width n ≡ width most
+wider most n more fits =
+    let up : width n ≤ width most = width-least n (width most) fits in
+    let top : n < 256 ^ width n = below-width n n (omega arith) in
+    let down : width most ≤ width n = width-least most (width n) (omega arith) in
+    omega arith
+
+same_field : (most n m : ℕ) → width n ≡ width most → field n m ≡ field most m
+same_field most n m is = cc
 
 module _ (most : ℕ) (bs : List ℕ) where
-  abbrev first : ℕ
-  first = little_number (width most) bs
-
-  abbrev begins : Bool
-  begins = bytes_eq (field most first) (take (width most) bs)
-
-  abbrev answer : Bool → Option (ℕ × List ℕ)
-  answer b = if b then Some (first, drop (width most) bs) else None
-
-  second_false : (a b : Bool) → b ≡ false → (a && b) ≡ false
-  second_false true b no = no
-  second_false false b no = refl
-
   -- bytes that are too few begin with no field
   pub number_short : (w : ℕ) → w ≡ width most → length bs < w → None ≡ number most bs
-  number_short w is short = sym (ap answer (second_false (nat_le first most) begins (false_from_ne_true begins unequal)))
+  number_short w is short = by (number most bs) refl
     where
-      unequal : begins ≡ true → ⊥
-      unequal same =
-          let equal = (bytes_eq-Decides (field most first) (take (width most) bs)).0 same in
-          let long : width most ≡ length (take (width most) bs) = sym (length-field most first) ∙ ap length equal in
-          let few : length bs < width most = subst (λ x. length bs < x) is short in
-          omega (arith, length-take (width most) bs)
+      by : (o : Option (ℕ × List ℕ)) → number most bs ≡ o → None ≡ o
+      by None found = refl
+      by (Some x) found =
+          let of_field = number-taken most x.0 bs x.1 found in
+          let long : length bs ≡ width most + length x.1 = ap length of_field.1 ∙ length-append (field most x.0) x.1 ∙ ap (λ n. n + length x.1) (length-field most x.0) in
+          let no : ⊥ = omega arith in
+          absurd no
 
   -- nor do bytes with a number above the greatest
-  pub number_large : (w n : ℕ) → w ≡ width most → n ≡ little_number w bs → most < n → None ≡ number most bs
-  number_large w n is value large = sym (ap (λ b. answer (b && begins)) (false_from_ne_true (nat_le first most) above))
+  pub number_large : (n : ℕ) (rest : List ℕ) → bs ≡ field most n ++ rest → n < 256 ^ width most → most < n → None ≡ number most bs
+  number_large n rest is fits more = by (number most bs) refl
     where
-      above : nat_le first most ≡ true → ⊥
-      above within =
-          let le : first ≤ most = leb-true first most within in
-          let same : n ≡ first = value ∙ ap (λ x. little_number x bs) is in
-          omega arith
+      by : (o : Option (ℕ × List ℕ)) → number most bs ≡ o → None ≡ o
+      by None found = refl
+      by (Some x) found =
+          let of_field = number-taken most x.0 bs x.1 found in
+          let wide = wider most n more fits in
+          let first : number n bs ≡ Some (n, rest) = ap (number n) (is ∙ ap (λ xs. xs ++ rest) (sym (same_field most n n wide))) ∙ number-field n n rest (omega arith) in
+          let second : number n bs ≡ Some (x.0, x.1) = ap (number n) (of_field.1 ∙ ap (λ xs. xs ++ x.1) (sym (same_field most n x.0 wide))) ∙ number-field n x.0 x.1 (omega (arith, of_field.0)) in
+          let same : n ≡ x.0 = (some_pair_parts _ _ _ _ (sym first ∙ second)).0 in
+          let no : ⊥ = omega (arith, of_field.0) in
+          absurd no
 
   -- other bytes begin with the field of their number
-  pub number_there : (w n : ℕ) (rest : List ℕ) → w ≡ width most → n ≡ little_number w bs → little_bytes w n ≡ take w bs → n ≤ most → rest ≡ take (length bs - w) (drop w bs) → Some (n, rest) ≡ number most bs
-  number_there w n rest is value back le tail =
-      let same : n ≡ first = value ∙ ap (λ x. little_number x bs) is in
-      let behind : rest ≡ drop (width most) bs = tail ∙ take_rest bs w ∙ ap (λ x. drop x bs) is in
-      let front : field most n ≡ take (width most) bs = ap (λ x. little_bytes x n) (sym is) ∙ back ∙ ap (λ x. take x bs) is in
-      let small : nat_le first most ≡ true = ap (λ m. nat_le m most) (sym same) ∙ le-leb n most le in
-      let starts : begins ≡ true = ap (λ m. bytes_eq (field most m) (take (width most) bs)) (sym same) ∙ (bytes_eq-Decides _ _).1 front in
-      ap (λ m. answer_of m rest) same ∙ ap (answer_of first) behind ∙ sym (ap answer (and_from _ _ small starts))
-    where
-      answer_of : ℕ → List ℕ → Option (ℕ × List ℕ)
-      answer_of m xs = Some (m, xs)
+  pub number_there : (n : ℕ) (rest : List ℕ) → bs ≡ field most n ++ rest → n ≤ most → Some (n, rest) ≡ number most bs
+  number_there n rest is le = sym (ap (number most) is ∙ number-field most n rest le)

@@ -18,7 +18,7 @@ use Rattle.castor_code.specs.Pieces.{at_most_int}
 use Rattle.castor_code.specs.Steps.{next, many, in_pair, made, passing}
 use Rattle.castor_code.specs.Forms.{Form, plain, then_form, in_turn, only_if, u8_form, u16_form, u32_form, int_form, node, list_form}
 use Rattle.castor_code.specs.Tags.{tag_number}
-use Rattle.castor_code.specs.CodeForms.{expr_form, bound_form, key_form, agg_form, ranges_form, group_form, is_some_list, some_form, CodeForm, form_in, key_code_form, hash_key_form, code_form_step, code_form, is_well_formed, code_bytes, CodesDiffer}
+use Rattle.castor_code.specs.CodeForms.{expr_form, bound_form, key_form, agg_form, ranges_form, group_form, is_some_list, some_form, int_parts, text_parts, CodeForm, form_in, key_code_form, hash_key_form, code_form_step, code_form, is_well_formed, code_bytes, CodesDiffer}
 use Rattle.castor_code.specs.CodeReadings.{Input, Parse, u8_in, u16_in, u32_in, int_in, told, with_left, tag_in, list_in, some_in, expr_in, bound_in, key_in, ranges_in, is_scalar_in, is_scalar, key_code_in, key_codes_in, hash_key_in, group_in, code_tags, code_tag, code_after, code_in, whole, code_of}
 use Rattle.castor_code.proofs.CodeInduction.{With, codes, CodeCases, code_induction, fold-Int, fold-Bool, fold-Text, fold-Cross, fold-Concat, fold-List, fold-Hash, fold-Ord, fold-Select, fold-Filter, fold-Dep, fold-Group, fold-Order, fold-Dedup}
 use Rattle.castor_code.proofs.StepLaws.{got, next_of, Came, came}
@@ -208,12 +208,6 @@ hash_key_reads levels key kid by law s good =
     ap (hash_key_in (code_in levels) (expr_in levels)) (front_then (u8_form n) (then_form middle tail) s)
     ∙ ap (λ o. next o (after_key levels)) (next_of _ (λ m t. many m (key_code_in (code_in levels)) t) _ _ first ∙ second)
     ∙ key_tail_reads levels ks kid by s (eqb-true _ _ counts.1) law (second_good levels middle tail behind)
-
-abbrev pub int_parts : ℤ → ℤ → Form
-int_parts lo hi = only_if (at_most_int lo hi) (then_form (int_form lo) (int_form hi))
-
-abbrev pub text_parts : ℕ → ℕ → Form
-text_parts min max = only_if (nat_le min max) (then_form (u16_form min) (u16_form max))
 
 abbrev pub list_parts : Range → Range → Code → Form
 list_parts count body c = then_form (ranges_form count body) (form_of c)

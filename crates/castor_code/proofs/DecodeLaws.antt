@@ -18,7 +18,7 @@ use Rattle.castor_code.specs.Pieces.{at_most_int}
 use Rattle.castor_code.specs.Steps.{next, when, many, in_pair, made, passing}
 use Rattle.castor_code.specs.Forms.{Form, plain, then_form, in_turn, only_if, u8_form, u16_form, u32_form, int_form, node}
 use Rattle.castor_code.specs.Tags.{tag_number}
-use Rattle.castor_code.specs.CodeForms.{expr_form, bound_form, key_form, ranges_form, group_form, some_form, CodeForm, code_form_step, code_form, is_well_formed, code_bytes, CodesDiffer}
+use Rattle.castor_code.specs.CodeForms.{expr_form, bound_form, key_form, ranges_form, group_form, some_form, int_parts, text_parts, CodeForm, code_form_step, code_form, is_well_formed, code_bytes, CodesDiffer}
 use Rattle.castor_code.specs.CodeReadings.{Input, Parse, u8_in, u16_in, u32_in, int_in, told, tag_in, some_in, expr_in, bound_in, key_in, ranges_in, is_scalar, key_code_in, key_codes_in, hash_key_in, group_in, code_tag, code_after, code_in, whole, code_of}
 use Rattle.castor_code.proofs.CodeInduction.{fold-Int, fold-Bool, fold-Text, fold-Cross, fold-Concat, fold-List, fold-Hash, fold-Ord, fold-Select, fold-Filter, fold-Dep, fold-Group, fold-Order, fold-Dedup}
 use Rattle.castor_code.proofs.StepLaws.{got, Came, came}
@@ -26,7 +26,7 @@ use Rattle.castor_code.proofs.InputLaws.{front, Good, Writes, same_input, front_
 use Rattle.castor_code.proofs.NodeLaws.{Node, made_node, told_parts, int_writes}
 use Rattle.castor_code.proofs.ExprLaws.{expr_writes}
 use Rattle.castor_code.proofs.BesideLaws.{bound_writes, key_writes, ranges_writes, group_writes, some_writes}
-use Rattle.castor_code.proofs.CodeLaws.{tag_is, scalar_told, form_of, key_form_of, kids_form, is_key_count, key_parts, key_form_is, after_key, int_parts, text_parts, list_parts, hash_parts, ord_parts, code_reads}
+use Rattle.castor_code.proofs.CodeLaws.{tag_is, scalar_told, form_of, key_form_of, kids_form, is_key_count, key_parts, key_form_is, after_key, list_parts, hash_parts, ord_parts, code_reads}
 
 folded_form : (c : Code) (f : CodeForm) → code_form c ≡ f → form_of c ≡ f.form
 folded_form c f is = ap (λ (x : CodeForm). x.form) is

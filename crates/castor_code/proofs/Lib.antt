@@ -17,4 +17,5 @@ pub mod NodeLaws
 pub mod NumberLaws
 pub mod SkipLaws
 pub mod StepLaws
+pub mod TagLaws
 pub mod ValueLaws

@@ -105,6 +105,56 @@ hash_key_form key kid by = only_if ((nat_lt 0 (length key) && nat_le (length key
 abbrev pub group_form : List ℕ → List Agg → Form
 group_form ks aggs = only_if (is_some_list ks || is_some_list aggs) (then_form (list_form u32_form ks) (list_form agg_form aggs))
 
+-- the parts of nodes, by the forms of their kids
+abbrev pub int_parts : ℤ → ℤ → Form
+int_parts lo hi = only_if (at_most_int lo hi) (then_form (int_form lo) (int_form hi))
+
+abbrev pub text_parts : ℕ → ℕ → Form
+text_parts min max = only_if (nat_le min max) (then_form (u16_form min) (u16_form max))
+
+abbrev pub list_parts : Range → Range → Form → Form
+list_parts count body kid = then_form (ranges_form count body) kid
+
+abbrev pub hash_parts : Range → Range → List CodeForm → Form → List Expr → Form
+hash_parts count body key kid by = then_form (ranges_form count body) (hash_key_form key kid by)
+
+abbrev pub ord_parts : Range → Range → CodeForm → Form → Bound → Bound → Form
+ord_parts count body key kid lo hi = then_form (ranges_form count body) (then_form (key_code_form key) (then_form kid (then_form (bound_form lo) (bound_form hi))))
+
+abbrev pub select_parts : List Expr → Form → Form
+select_parts es kid = then_form (some_form expr_form es) kid
+
+abbrev pub filter_parts : Expr → Form → Form
+filter_parts e kid = then_form (expr_form e) kid
+
+abbrev pub dep_parts : ℕ → Form → Form → Form
+dep_parts k first second = then_form (u32_form k) (then_form first second)
+
+abbrev pub group_parts : List ℕ → List Agg → Form → Form
+group_parts ks aggs kid = then_form (group_form ks aggs) kid
+
+abbrev pub order_parts : List Key → Form → Form
+order_parts ks kid = then_form (some_form key_form ks) kid
+
+-- the front of a node with several kids, and what stands behind it
+abbrev pub key_codes_form : List CodeForm → Form
+key_codes_form key = then_form (u8_form (length key)) (in_turn (map key_code_form key))
+
+abbrev pub hash_head : Range → Range → List CodeForm → Form
+hash_head count body key = node 7 (then_form (ranges_form count body) (key_codes_form key))
+
+abbrev pub hash_tail : Form → List Expr → Form
+hash_tail kid by = then_form kid (in_turn (map expr_form by))
+
+abbrev pub ord_head : Range → Range → CodeForm → Form
+ord_head count body key = node 8 (then_form (ranges_form count body) (key_code_form key))
+
+abbrev pub ord_tail : Form → Bound → Bound → Form
+ord_tail kid lo hi = then_form kid (then_form (bound_form lo) (bound_form hi))
+
+abbrev pub dep_head : ℕ → Form → Form
+dep_head k first = node 11 (then_form (u32_form k) first)
+
 abbrev pub scalar_node : ℕ → Form → CodeForm
 scalar_node tag parts = record { form = node tag parts; scalar = true }
 
@@ -112,19 +162,19 @@ abbrev pub relation_node : ℕ → Form → CodeForm
 relation_node tag parts = record { form = node tag parts; scalar = false }
 
 abbrev pub code_form_step : Code-F CodeForm → CodeForm
-code_form_step (code.Int lo hi) = scalar_node 1 (only_if (at_most_int lo hi) (then_form (int_form lo) (int_form hi)))
+code_form_step (code.Int lo hi) = scalar_node 1 (int_parts lo hi)
 code_form_step code.Bool = scalar_node 2 (plain true [])
-code_form_step (code.Text min max) = scalar_node 3 (only_if (nat_le min max) (then_form (u16_form min) (u16_form max)))
+code_form_step (code.Text min max) = scalar_node 3 (text_parts min max)
 code_form_step (code.Cross ks) = relation_node 4 (some_form form_in ks)
 code_form_step (code.Concat ks) = relation_node 5 (some_form form_in ks)
-code_form_step (code.List count body kid) = relation_node 6 (then_form (ranges_form count body) kid.form)
-code_form_step (code.Hash count body key kid by) = relation_node 7 (then_form (ranges_form count body) (hash_key_form key kid.form by))
-code_form_step (code.Ord count body key kid lo hi) = relation_node 8 (then_form (ranges_form count body) (then_form (key_code_form key) (then_form kid.form (then_form (bound_form lo) (bound_form hi)))))
-code_form_step (code.Select es kid) = relation_node 9 (then_form (some_form expr_form es) kid.form)
-code_form_step (code.Filter e kid) = relation_node 10 (then_form (expr_form e) kid.form)
-code_form_step (code.Dep k first second) = relation_node 11 (then_form (u32_form k) (then_form first.form second.form))
-code_form_step (code.Group ks aggs kid) = relation_node 12 (then_form (group_form ks aggs) kid.form)
-code_form_step (code.Order ks kid) = relation_node 13 (then_form (some_form key_form ks) kid.form)
+code_form_step (code.List count body kid) = relation_node 6 (list_parts count body kid.form)
+code_form_step (code.Hash count body key kid by) = relation_node 7 (hash_parts count body key kid.form by)
+code_form_step (code.Ord count body key kid lo hi) = relation_node 8 (ord_parts count body key kid.form lo hi)
+code_form_step (code.Select es kid) = relation_node 9 (select_parts es kid.form)
+code_form_step (code.Filter e kid) = relation_node 10 (filter_parts e kid.form)
+code_form_step (code.Dep k first second) = relation_node 11 (dep_parts k first.form second.form)
+code_form_step (code.Group ks aggs kid) = relation_node 12 (group_parts ks aggs kid.form)
+code_form_step (code.Order ks kid) = relation_node 13 (order_parts ks kid.form)
 code_form_step (code.Dedup kid) = relation_node 14 kid.form
 
 -- the form of a code

@@ -6,6 +6,7 @@ pub mod DataLaws
 pub mod DecodeLaws
 pub mod IndexLaws
 pub mod KeyLaws
+pub mod LevelLaws
 pub mod LoopLaws
 pub mod PartLaws
 pub mod PutLaws
@@ -18,4 +19,5 @@ pub mod NumberLaws
 pub mod SkipLaws
 pub mod StepLaws
 pub mod TagLaws
+pub mod TextLaws
 pub mod ValueLaws

@@ -179,7 +179,7 @@ key_form_is key kid by =
     ∙ ap (λ (fs : List Form). only_if (is_key_count (length key) && eqb (length by) (length key)) (then_form (u8_form (length key)) (then_form (in_turn fs) (then_form (form_of kid) (in_turn (map expr_form by)))))) (key_forms_of key)
 
 -- what stands behind the codes of a key
-abbrev after_key : ℕ → List Code → Input → Option ((List Code × (Code × List Expr)) × Input)
+abbrev pub after_key : ℕ → List Code → Input → Option ((List Code × (Code × List Expr)) × Input)
 after_key levels ks t = next (code_in levels t) (λ kid u. next (many (length ks) (expr_in levels) u) (λ es v. got (ks, (kid, es)) v))
 
 key_tail_reads : (levels : ℕ) (key : List Code) (kid : Code) (by : List Expr) (s : Input) → length by ≡ length key → CodeReads kid → Good levels (then_form (form_of kid) (in_turn (map expr_form by)))

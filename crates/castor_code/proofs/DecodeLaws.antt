@@ -173,11 +173,11 @@ encoded bytes c left is none =
     (and_from _ _ all.0.sound (and_from _ _ few shallow), same ∙ ap (λ (xs : List ℕ). code_bytes c ++ xs) none ∙ append-nil (code_bytes c))
 
 none_is : {X : Type 0} (o : Option X) (x : X) → o ≡ None → o ≡ Some x → ⊥
-none_is o x no is = none-some x (sym no ∙ is)
+none_is o x none is = none-some x (sym none ∙ is)
 
 -- where nothing is read there is no code
 not_read : (bytes : List ℕ) → code_in 64 (all_of bytes) ≡ None → IsNoCode bytes
-not_read bytes no c ok same = none_is (code_in 64 (all_of bytes)) (c, spare c) no (ap (λ bs. code_in 64 (all_of bs)) same ∙ decoded c ok)
+not_read bytes none c ok same = none_is (code_in 64 (all_of bytes)) (c, spare c) none (ap (λ bs. code_in 64 (all_of bs)) same ∙ decoded c ok)
 
 -- and none where something is left behind a code
 not_all : (bytes : List ℕ) (d : Code) (left : Input) → code_in 64 (all_of bytes) ≡ Some (d, left) → (left.bytes ≡ [] → ⊥) → IsNoCode bytes
@@ -188,7 +188,7 @@ Decodes bytes r = MatchResult r (λ c. (is_well_formed c ≡ true) × (bytes ≡
 
 refused : (bytes : List ℕ) (left : Input) (e : CodeError) → (e ≡ Memory) ⊎ ((e ≡ NotCode) × (code_in 64 (all_of bytes) ≡ None)) → (e ≡ Memory) ⊎ ((e ≡ NotCode) × IsNoCode bytes)
 refused bytes left e (inl memory) = inl memory
-refused bytes left e (inr no) = inr (no.0, not_read bytes no.1)
+refused bytes left e (inr due) = inr (due.0, not_read bytes due.1)
 
 ok_in : Code → Result Code CodeError → Code
 ok_in d (Ok c) = c

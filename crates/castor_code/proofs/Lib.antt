@@ -4,6 +4,7 @@ pub mod CodeInduction
 pub mod CodeLaws
 pub mod DataLaws
 pub mod DecodeLaws
+pub mod HashReads
 pub mod IndexLaws
 pub mod KeyLaws
 pub mod LevelLaws

@@ -86,8 +86,8 @@ module _ (levels : ℕ) (law : Writes levels (code_in levels) form_of) where
       let middle = in_turn (map key_form_of ks) in
       let rest = then_form (form_of x.1.0) (in_turn (map expr_form x.1.1)) in
       let joined = both_good levels (then_form number middle) rest head.1 tail.2 in
-      let sounds = and_parts _ _ joined.sound in
-      let fronts = and_parts _ _ sounds.0 in
+      let sounds = and_parts (then_form number middle).sound rest.sound joined.sound in
+      let fronts = and_parts number.sound middle.sound sounds.0 in
       let sound : (then_form number (then_form middle rest)).sound ≡ true = and_from _ _ fronts.0 (and_from _ _ fronts.1 sounds.1) in
       let tests : (is_key_count (length ks) && eqb (length x.1.1) (length ks)) ≡ true = and_from _ _ head.0 (eq-eqb _ _ tail.1) in
       let depth : (then_form number (then_form middle rest)).depth ≤ levels = deep number.depth middle.depth rest.depth joined.depth in
@@ -190,11 +190,11 @@ refused : (bytes : List ℕ) (left : Input) (e : CodeError) → (e ≡ Memory) �
 refused bytes left e (inl memory) = inl memory
 refused bytes left e (inr due) = inr (due.0, not_read bytes due.1)
 
-ok_in : Code → Result Code CodeError → Code
+abbrev ok_in : Code → Result Code CodeError → Code
 ok_in d (Ok c) = c
 ok_in d (Err e) = d
 
-err_in : CodeError → Result Code CodeError → CodeError
+abbrev err_in : CodeError → Result Code CodeError → CodeError
 err_in w (Ok c) = w
 err_in w (Err e) = e
 
@@ -203,7 +203,10 @@ not_both c e r s ok err same = let no : true ≡ false = ap is_ok (sym ok ∙ sa
 
 -- what is decoded, of what is read and of what is left then
 pub decodes : (bytes : List ℕ) (left : Input) (read r : Result Code CodeError) → Takes (λ c. c) (code_in 64 (all_of bytes)) left read → EndsWith read left.bytes r → Decodes bytes r
-decodes bytes left (Ok d) (Ok c) took ends = encoded bytes c left (took ∙ ap (λ x. got x left) (ap (ok_in d) ends.0)) ends.1
+decodes bytes left (Ok d) (Ok c) took ends =
+    let same : d ≡ c = ap (ok_in d) ends.0 in
+    let read : code_in 64 (all_of bytes) ≡ Some (c, left) = took ∙ ap (λ (x : Code). got {X = Code} {S = Input} x left) same in
+    encoded bytes c left read ends.1
 decodes bytes left (Err w) (Ok c) took ends = absurd (not_both c w (Ok c) (Err w) refl refl (sym ends.0))
 decodes bytes left (Ok d) (Err e) took (inl same) = absurd (not_both d e (Ok d) (Err e) refl refl same)
 decodes bytes left (Err w) (Err e) took (inl same) = subst (λ x. (x ≡ Memory) ⊎ ((x ≡ NotCode) × IsNoCode bytes)) (ap (err_in w) same) (refused bytes left w took)

@@ -20,7 +20,7 @@ best_of_three() {
         end=$(date +%s%N)
         if [ -z "$best" ] || [ $((end - start)) -lt "$best" ]; then best=$((end - start)); fi
     done
-    awk -v ns="$best" 'BEGIN { printf "%.3f", ns / 1e9 }'
+    awk -v ns="$best" 'BEGIN { printf "%.4f", ns / 1e9 }'
 }
 
 # A table of orders with so many rows, as CSV.

@@ -1,20 +1,10 @@
 #!/usr/bin/env bash
-# Parses a query of the greatest size (1,048,576 bytes, 65,536 tokens, 4,096 relations and expressions), and
-# prints the best of ten runs: the seconds and the bytes a second. A run is the whole program, which starts,
-# reads the file and parses it. The query's first table isn't declared, so it stops there.
-#
-# It wants the program castor: that of crates/castor/out, or the one that $CASTOR names.
+# Parses a query of the greatest size (1,048,576 bytes, 65,536 tokens, 4,096 relations and expressions),
+# and prints the best of three runs: the seconds and the bytes a second. A run is the whole program,
+# which starts, reads the file and parses it. The query's first table isn't declared, so it stops there.
 set -eu
 
-castor=${CASTOR:-$(cd "$(dirname "$0")/.." && pwd)/crates/castor/out/castor}
-if [ ! -x "$castor" ]; then
-    echo "parse: no program at $castor; build it with rt ci, or name one in CASTOR" >&2
-    exit 1
-fi
-castor=$(realpath "$castor")
-folder=$(mktemp -d)
-trap 'rm -rf "$folder"' EXIT
-cd "$folder"
+. "$(dirname "${BASH_SOURCE[0]}")/common.sh"
 
 # A concat of the table and of 2,047 scalars, each of one text in 13 or 14 pairs of parentheses, which are no
 # nodes. The texts take the bytes that are left.
@@ -49,13 +39,7 @@ case $(cat error) in
     ;;
 esac
 
-best=
-for _ in 1 2 3 4 5 6 7 8 9 10; do
-    start=$(date +%s%N)
-    parse
-    end=$(date +%s%N)
-    if [ -z "$best" ] || [ $((end - start)) -lt "$best" ]; then best=$((end - start)); fi
-done
-awk -v size="$(wc -c <big.query)" -v ns="$best" 'BEGIN {
-    printf "parse: %d bytes: %.4f s, %.0f bytes/s (%.1f MB/s)\n", size, ns / 1e9, size * 1e9 / ns, size * 1e3 / ns
+seconds=$(best_of_three parse)
+awk -v size="$(wc -c <big.query)" -v s="$seconds" 'BEGIN {
+    printf "parse: %d bytes: %.3f s, %.1f MB/s\n", size, s, size / s / 1e6
 }'

@@ -1,0 +1,4 @@
+pub mod ColumnCountLaws
+pub mod ScalarLaws
+pub mod ScopeColumnLaws
+pub mod StoreLaws

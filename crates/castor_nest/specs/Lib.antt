@@ -1,0 +1,3 @@
+pub mod ColumnCount
+pub mod ScopeColumns
+pub mod Store

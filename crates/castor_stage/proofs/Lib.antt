@@ -1,0 +1,9 @@
+pub mod ArmLaws
+pub mod AscendingLaws
+pub mod BuildLaws
+pub mod HoldingLaws
+pub mod KeyLaws
+pub mod LoopLaws
+pub mod OrderLaws
+pub mod ShapeLaws
+pub mod WalkLaws

@@ -1,0 +1,5 @@
+pub mod Binders
+pub mod HeldData
+pub mod HeldKeys
+pub mod Holds
+pub mod Stages

@@ -7,8 +7,6 @@ pub mod encoding;
 pub mod fields;
 pub mod skips;
 pub mod tag;
-#[cfg(test)]
-mod tests;
 
 pub use code::{Code, Range};
 pub use decoding::{CodeError, decode};

@@ -1,5 +1,5 @@
 -- What stands beside codes and expressions: what is written is read, and what is read is so written.
-use Rattle.std.proofs.Common.{◌≡◌, ◌∙◌, ℕ, zero, suc, List, [], ◌∷◌, Bool, true, ◌||◌, nat_le, Option, Some, None, subst, ap, sym, refl}
+use Rattle.std.proofs.Common.{◌≡◌, ◌∙◌, ℕ, zero, suc, List, [], ◌∷◌, Bool, ◌||◌, nat_le, Some, subst, ap, sym, refl}
 use Rattle.std.proofs.lemmas.Option.{some_pair_parts, none-some}
 use Rattle.castor_alg.specs.declared.expr.Expr.{Expr}
 use Rattle.castor_alg.specs.declared.rel.Agg.{Agg}
@@ -8,11 +8,11 @@ use Rattle.castor_alg.specs.declared.rel.Bound.{Bound}
 use Rattle.castor_alg.specs.declared.rel.Bound.TheVariants.{Any, Incl, Excl}
 use Rattle.castor_alg.specs.declared.rel.Key.{Key}
 use Rattle.castor_code.specs.declared.code.Range.{Range}
-use Rattle.castor_code.specs.Steps.{next, in_pair, made, passing}
-use Rattle.castor_code.specs.Forms.{Form, then_form, only_if, u8_form, u32_form, u64_form, bool_form, list_form}
+use Rattle.castor_code.specs.Steps.{in_pair, made}
+use Rattle.castor_code.specs.Forms.{Form, then_form, u8_form, u32_form, u64_form, bool_form, list_form}
 use Rattle.castor_code.specs.CodeForms.{expr_form, bound_form, agg_form, key_form, range_form, ranges_form, is_some_list, some_form, group_form}
 use Rattle.castor_code.specs.CodeReadings.{Input, Parse, u8_in, u32_in, u64_in, bool_in, expr_in, bound_after, bound_in, agg_after, agg_in, key_in, range_in, ranges_in, list_in, some_in, group_in}
-use Rattle.castor_code.proofs.StepLaws.{got, next_of, Came, came}
+use Rattle.castor_code.proofs.StepLaws.{got, next_of, came}
 use Rattle.castor_code.proofs.InputLaws.{front, Good, Reads, Writes, front_then, first_good, second_good, both_good, number_reads, number_writes, pair_reads, pair_writes, made_reads, made_writes, passing_reads, passing_writes, AllRead, none_read, more_read, list_reads, list_writes}
 use Rattle.castor_code.proofs.NodeLaws.{bool_reads, bool_writes}
 use Rattle.castor_code.proofs.ExprLaws.{expr_reads, expr_writes}

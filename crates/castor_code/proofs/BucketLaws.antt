@@ -1,5 +1,5 @@
 -- Entries put by bucket, and put back in the order of their keys.
-use Rattle.std.proofs.Common.{◌≡◌, ◌∙◌, ℕ, zero, suc, ◌+◌, ◌<◌, ◌≤◌, eqb, nat_lt, append-nil, List, [], ◌∷◌, ◌++◌, filter, length, Bool, true, false, ◌&&◌, if◌then◌else◌, ap, sym, refl, subst, arith, append_assoc, length-append}
+use Rattle.std.proofs.Common.{◌≡◌, ◌∙◌, ℕ, zero, suc, ◌+◌, ◌<◌, ◌≤◌, eqb, nat_lt, append-nil, List, [], ◌∷◌, ◌++◌, filter, length, Bool, true, false, if◌then◌else◌, ap, sym, refl, subst, arith, append_assoc, length-append}
 use Rattle.std.specs.List.{list_all}
 use Rattle.std.proofs.lemmas.Bool.{and_parts, and_from, eq-eqb, ne_eqb, ltb-true, eqb-true, eqb-false}
 use Rattle.castor_alg.specs.Sorting.{inserted, sorted}

@@ -1,7 +1,7 @@
 -- Codes: what is written is read, and what is read is so written.
-use Rattle.std.proofs.Common.{◌≡◌, ◌∙◌, ℕ, zero, suc, ℤ, ◌+◌, ◌-◌, ◌≤◌, eqb, nat_lt, nat_le, List, [], ◌∷◌, map, length, Bool, true, false, ◌&&◌, ◌||◌, if◌then◌else◌, slice_get, Option, Some, None, subst, ap, sym, refl, arith}
-use Rattle.std.proofs.lemmas.Bool.{and_parts, and_from, ltb-false, eq-eqb, eqb-true}
-use Rattle.std.proofs.lemmas.Option.{some_pair_parts, none-some, same_Some}
+use Rattle.std.proofs.Common.{◌≡◌, ◌∙◌, ℕ, zero, suc, ℤ, ◌+◌, ◌-◌, ◌≤◌, eqb, nat_lt, nat_le, List, [], ◌∷◌, map, length, Bool, true, false, ◌&&◌, if◌then◌else◌, slice_get, Option, Some, None, subst, ap, sym, refl, arith}
+use Rattle.std.proofs.lemmas.Bool.{and_parts, and_from, ltb-false, eqb-true}
+use Rattle.std.proofs.lemmas.Option.{none-some, same_Some}
 use Rattle.std.proofs.lemmas.List.{length-map}
 use Rattle.castor_alg.specs.declared.expr.Expr.{Expr}
 use Rattle.castor_alg.specs.declared.rel.Agg.{Agg}
@@ -15,17 +15,17 @@ use Rattle.castor_code.specs.declared.code.Range.{Range}
 use Rattle.castor_code.specs.declared.tag.CodeTag.{CodeTag}
 use Rattle.castor_code.specs.declared.tag.CodeTag.TheVariants as tag
 use Rattle.castor_code.specs.Pieces.{at_most_int}
-use Rattle.castor_code.specs.Steps.{next, many, in_pair, made, passing}
-use Rattle.castor_code.specs.Forms.{Form, plain, then_form, in_turn, only_if, u8_form, u16_form, u32_form, int_form, node, list_form}
+use Rattle.castor_code.specs.Steps.{next, many, in_pair, passing}
+use Rattle.castor_code.specs.Forms.{Form, plain, then_form, in_turn, only_if, u8_form, u16_form, u32_form, int_form, node}
 use Rattle.castor_code.specs.Tags.{tag_number}
-use Rattle.castor_code.specs.CodeForms.{expr_form, bound_form, key_form, agg_form, ranges_form, group_form, is_some_list, some_form, int_parts, text_parts, CodeForm, form_in, key_code_form, hash_key_form, code_form_step, code_form, is_well_formed, code_bytes, CodesDiffer}
-use Rattle.castor_code.specs.CodeReadings.{Input, Parse, u8_in, u16_in, u32_in, int_in, told, with_left, tag_in, list_in, some_in, expr_in, bound_in, key_in, ranges_in, is_scalar_in, is_scalar, key_code_in, key_codes_in, hash_key_in, group_in, code_tags, code_tag, code_after, code_in, whole, code_of}
-use Rattle.castor_code.proofs.CodeInduction.{With, codes, CodeCases, code_induction, fold-Int, fold-Bool, fold-Text, fold-Cross, fold-Concat, fold-List, fold-Hash, fold-Ord, fold-Select, fold-Filter, fold-Dep, fold-Group, fold-Order, fold-Dedup}
-use Rattle.castor_code.proofs.StepLaws.{got, next_of, Came, came}
-use Rattle.castor_code.proofs.InputLaws.{front, Good, Reads, Writes, same_input, front_then, first_good, second_good, both_good, number_reads, number_writes, pair_reads, pair_writes, zero_and, made_reads, made_writes, passing_reads, passing_writes, AllRead, none_read, more_read, many_reads, many_writes, list_reads, list_writes, parts_good, no_level, node_good, tag_reads, tag_writes}
-use Rattle.castor_code.proofs.NodeLaws.{Node, made_node, told_parts, int_reads, int_writes}
-use Rattle.castor_code.proofs.ExprLaws.{expr_reads, expr_writes}
-use Rattle.castor_code.proofs.BesideLaws.{bound_reads, bound_writes, key_reads, key_writes, ranges_reads, ranges_writes, group_reads, group_writes, some_reads, some_writes, exprs_read, keys_read}
+use Rattle.castor_code.specs.CodeForms.{expr_form, bound_form, key_form, ranges_form, group_form, is_some_list, some_form, int_parts, text_parts, CodeForm, form_in, key_code_form, hash_key_form, code_form_step, code_form}
+use Rattle.castor_code.specs.CodeReadings.{Input, u8_in, u16_in, u32_in, int_in, told, with_left, tag_in, some_in, expr_in, bound_in, key_in, ranges_in, is_scalar_in, is_scalar, key_code_in, hash_key_in, group_in, code_tags, code_tag, code_after, code_in}
+use Rattle.castor_code.proofs.CodeInduction.{With, codes, code_induction, fold-Int, fold-Bool, fold-Text, fold-Cross, fold-Concat, fold-List, fold-Hash, fold-Ord, fold-Select, fold-Filter, fold-Dep, fold-Group, fold-Order, fold-Dedup}
+use Rattle.castor_code.proofs.StepLaws.{got, next_of}
+use Rattle.castor_code.proofs.InputLaws.{front, Good, Reads, same_input, front_then, first_good, second_good, number_reads, pair_reads, zero_and, made_reads, passing_reads, AllRead, none_read, more_read, many_reads, parts_good, no_level, tag_reads}
+use Rattle.castor_code.proofs.NodeLaws.{int_reads}
+use Rattle.castor_code.proofs.ExprLaws.{expr_reads}
+use Rattle.castor_code.proofs.BesideLaws.{bound_reads, ranges_reads, group_reads, some_reads, exprs_read, keys_read}
 
 -- a node has its tag alone
 tag_told : (kind : CodeTag) → code_tag (tag_number kind) ≡ Some kind

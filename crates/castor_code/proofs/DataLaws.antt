@@ -1,14 +1,13 @@
 -- Data tells what is held, and where it ends.
-use Rattle.std.proofs.Common.{◌≡◌, ◌∙◌, ℕ, ℤ, List, [], ◌∷◌, ◌++◌, map, true, Option, Some, ap, sym, refl, subst}
+use Rattle.std.proofs.Common.{◌≡◌, ◌∙◌, ℤ, List, [], ◌∷◌, map, ap, sym, refl, subst}
 use Rattle.std.proofs.lemmas.Option.{some_pair_parts}
-use Rattle.castor_alg.specs.declared.held.Held.{Held}
 use Rattle.castor_code.specs.declared.code.Range.{Range}
 use Rattle.castor_code.specs.declared.code.Code.{Code}
 use Rattle.castor_code.specs.Shapes.{leaf_of, parts_of, rows_of, keyed_of, inner_of}
 use Rattle.castor_code.specs.Directories.{entry_piece, hash_piece, ord_piece}
 use Rattle.castor_code.specs.Readings.{entry_read, hash_offsets, ord_offsets}
-use Rattle.castor_code.specs.Data.{Format, writers, readers, int_format, bool_format, text_format, parts_format, inner_format, list_format, hash_format, ord_format, format_step, format, fits, data_of, stored, ReadsData, DataIsTold}
-use Rattle.castor_code.proofs.CodeInduction.{With, codes, CodeCases, code_induction, fold-Int, fold-Bool, fold-Text, fold-Cross, fold-Concat, fold-List, fold-Hash, fold-Ord, fold-Select, fold-Filter, fold-Dep, fold-Group, fold-Order, fold-Dedup}
+use Rattle.castor_code.specs.Data.{Format, writers, readers, int_format, bool_format, text_format, parts_format, inner_format, list_format, hash_format, ord_format, format_step, format, stored, ReadsData, DataIsTold}
+use Rattle.castor_code.proofs.CodeInduction.{With, codes, code_induction, fold-Int, fold-Bool, fold-Text, fold-Cross, fold-Concat, fold-List, fold-Hash, fold-Ord, fold-Select, fold-Filter, fold-Dep, fold-Group, fold-Order, fold-Dedup}
 use Rattle.castor_code.proofs.ValueLaws.{int_again, int_taken, bool_again, bool_taken, text_again, text_taken}
 use Rattle.castor_code.proofs.PartLaws.{Lawful, AllLawful, none, more, parts_again, parts_taken, inner_again, inner_taken, list_again, list_taken, entry_again}
 use Rattle.castor_code.proofs.IndexLaws.{index_taken, hash_again, ord_again}

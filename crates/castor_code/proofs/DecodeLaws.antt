@@ -1,7 +1,7 @@
 -- What is read as a code is written as that code, and no two codes share their bytes.
-use Rattle.std.proofs.Common.{◌≡◌, ◌∙◌, ℕ, zero, suc, ℤ, ◌+◌, ◌-◌, ◌≤◌, eqb, max, nat_le, List, [], ◌∷◌, ◌++◌, ◌⊎◌, inl, inr, Result, Ok, Err, is_ok, MatchResult, map, length, Bool, true, false, ◌&&◌, Option, Some, None, subst, ap, sym, refl, arith, append-nil}
-use Rattle.std.proofs.lemmas.Bool.{and_parts, and_from, eq-eqb, eqb-true, le-leb, leb-true}
-use Rattle.std.proofs.lemmas.Option.{some_pair_parts, none-some, same_Some, cond_some}
+use Rattle.std.proofs.Common.{◌≡◌, ◌∙◌, ℕ, zero, suc, ℤ, ◌+◌, ◌-◌, ◌≤◌, eqb, max, nat_le, List, [], ◌++◌, ◌⊎◌, inl, inr, Result, Ok, Err, is_ok, MatchResult, map, length, true, false, ◌&&◌, Option, Some, None, subst, ap, sym, refl, arith, append-nil}
+use Rattle.std.proofs.lemmas.Bool.{and_parts, and_from, eq-eqb, le-leb, leb-true}
+use Rattle.std.proofs.lemmas.Option.{some_pair_parts, none-some}
 use Rattle.castor_alg.specs.declared.expr.Expr.{Expr}
 use Rattle.castor_alg.specs.declared.rel.Agg.{Agg}
 use Rattle.castor_alg.specs.declared.rel.Bound.{Bound}
@@ -15,13 +15,13 @@ use Rattle.castor_code.specs.declared.decoding.CodeError.{CodeError}
 use Rattle.castor_code.specs.declared.decoding.CodeError.TheVariants.{NotCode, Memory}
 use Rattle.castor_code.specs.CodeAnswers.{Takes, EndsWith, IsNoCode}
 use Rattle.castor_code.specs.Pieces.{at_most_int}
-use Rattle.castor_code.specs.Steps.{next, when, many, in_pair, made, passing}
+use Rattle.castor_code.specs.Steps.{next, many, in_pair, passing}
 use Rattle.castor_code.specs.Forms.{Form, plain, then_form, in_turn, only_if, u8_form, u16_form, u32_form, int_form, node}
 use Rattle.castor_code.specs.Tags.{tag_number}
 use Rattle.castor_code.specs.CodeForms.{expr_form, bound_form, key_form, ranges_form, group_form, some_form, int_parts, text_parts, CodeForm, code_form_step, code_form, is_well_formed, code_bytes, CodesDiffer}
-use Rattle.castor_code.specs.CodeReadings.{Input, Parse, u8_in, u16_in, u32_in, int_in, told, tag_in, some_in, expr_in, bound_in, key_in, ranges_in, is_scalar, key_code_in, key_codes_in, hash_key_in, group_in, code_tag, code_after, code_in, whole, code_of}
+use Rattle.castor_code.specs.CodeReadings.{Input, Parse, u8_in, u16_in, u32_in, int_in, told, tag_in, some_in, expr_in, bound_in, key_in, ranges_in, is_scalar, key_code_in, key_codes_in, hash_key_in, group_in, code_tag, code_after, code_in}
 use Rattle.castor_code.proofs.CodeInduction.{fold-Int, fold-Bool, fold-Text, fold-Cross, fold-Concat, fold-List, fold-Hash, fold-Ord, fold-Select, fold-Filter, fold-Dep, fold-Group, fold-Order, fold-Dedup}
-use Rattle.castor_code.proofs.StepLaws.{got, Came, came}
+use Rattle.castor_code.proofs.StepLaws.{got, came}
 use Rattle.castor_code.proofs.InputLaws.{front, Good, Writes, same_input, front_then, both_good, zero_and, number_writes, pair_writes, passing_writes, many_writes, node_good, tag_writes}
 use Rattle.castor_code.proofs.NodeLaws.{Node, made_node, told_parts, int_writes}
 use Rattle.castor_code.proofs.ExprLaws.{expr_writes}

@@ -1,22 +1,22 @@
 -- Expressions and what stands beside them: what is written is read, and what is read is so written.
-use Rattle.std.proofs.Common.{◌≡◌, ◌∙◌, ℕ, zero, suc, ℤ, ◌+◌, ◌-◌, ◌≤◌, nat_lt, List, [], ◌∷◌, Bool, true, false, if◌then◌else◌, slice_get, Option, Some, None, subst, ap, sym, refl, arith}
-use Rattle.std.proofs.lemmas.Bool.{le-leb, ltb-false}
-use Rattle.std.proofs.lemmas.Option.{some_pair_parts, none-some, same_Some}
+use Rattle.std.proofs.Common.{◌≡◌, ◌∙◌, ℕ, zero, suc, ◌+◌, ◌-◌, ◌≤◌, nat_lt, Bool, true, false, if◌then◌else◌, slice_get, Option, Some, None, subst, ap, sym, refl, arith}
+use Rattle.std.proofs.lemmas.Bool.{ltb-false}
+use Rattle.std.proofs.lemmas.Option.{none-some, same_Some}
 use Rattle.castor_val.specs.declared.value.Value.{Value}
 use Rattle.castor_val.specs.declared.value.Value.TheVariants.{Int, Bool as Truth, Text}
 use Rattle.castor_alg.specs.declared.expr.Op.{Op}
 use Rattle.castor_alg.specs.declared.expr.Op.TheVariants.{Or, And, Eq, Ne, Lt, Le, Gt, Ge, Add, Sub, Mul, Div, Rem}
 use Rattle.castor_alg.specs.declared.expr.Expr.{Expr}
 use Rattle.castor_alg.specs.declared.expr.Expr as E
-use Rattle.castor_alg.proofs.ExprInduction.{ExprCases, expr_induction, fold-Col, fold-Scope, fold-Param, fold-Lit, fold-Bin, fold-Not, fold-If}
+use Rattle.castor_alg.proofs.ExprInduction.{expr_induction, fold-Col, fold-Scope, fold-Param, fold-Lit, fold-Bin, fold-Not, fold-If}
 use Rattle.castor_code.specs.declared.tag.ExprTag.{ExprTag}
 use Rattle.castor_code.specs.declared.tag.ExprTag.TheVariants as part
-use Rattle.castor_code.specs.Steps.{next, in_pair, made}
+use Rattle.castor_code.specs.Steps.{in_pair}
 use Rattle.castor_code.specs.Forms.{Form, then_form, u8_form, u32_form, int_form, bool_form, text_form, node}
 use Rattle.castor_code.specs.Tags.{expr_number}
-use Rattle.castor_code.specs.CodeForms.{op_number, literal_form, expr_form_step, expr_form}
-use Rattle.castor_code.specs.CodeReadings.{Input, Parse, u8_in, u32_in, int_in, bool_in, text_in, told, with_left, tag_in, ops, op_in, expr_tags, expr_tag, expr_after, expr_in}
-use Rattle.castor_code.proofs.StepLaws.{got, next_of, Came, came}
+use Rattle.castor_code.specs.CodeForms.{op_number, expr_form_step, expr_form}
+use Rattle.castor_code.specs.CodeReadings.{Input, u8_in, u32_in, int_in, bool_in, text_in, told, with_left, tag_in, ops, op_in, expr_tags, expr_tag, expr_after, expr_in}
+use Rattle.castor_code.proofs.StepLaws.{next_of, came}
 use Rattle.castor_code.proofs.InputLaws.{front, Good, Reads, Writes, number_reads, number_writes, pair_reads, pair_writes, made_reads, parts_good, no_level, node_good, tag_reads, tag_writes}
 use Rattle.castor_code.proofs.NodeLaws.{Node, made_node, told_reads, told_parts, told_writes, int_reads, int_writes, bool_reads, bool_writes, text_reads, text_writes}
 

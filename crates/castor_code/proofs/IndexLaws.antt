@@ -1,29 +1,27 @@
 -- Indexes: what is written is read, and what is read is so written.
-use Rattle.std.proofs.Common.{◌≡◌, ◌∙◌, ℕ, zero, suc, ◌+◌, ◌-◌, ◌*◌, ◌<◌, ◌≤◌, nat_lt, List, [], ◌∷◌, ◌++◌, map, take, drop, length, Bool, true, false, ◌&&◌, Option, Some, None, subst, ap, sym, refl, arith, append_assoc, length-append}
-use Rattle.std.specs.List.{list_all, flat_map, range_with_len}
+use Rattle.std.proofs.Common.{◌≡◌, ◌∙◌, ℕ, ◌*◌, ◌<◌, nat_lt, List, [], ◌∷◌, ◌++◌, take, drop, length, true, ◌&&◌, Option, Some, None, ap, sym, refl, arith, append_assoc, length-append}
+use Rattle.std.specs.List.{list_all}
 use Rattle.std.specs.Str.{bytes_eq}
 use Rattle.std.proofs.lemmas.Bool.{and_parts, and_from, lt-ltb}
-use Rattle.std.proofs.lemmas.Option.{some_pair_parts}
 use Rattle.std.proofs.lemmas.List.{take_at, drop_at, take-append-drop}
 use Rattle.std.proofs.lemmas.List.FromFn.{length-map-range_with_len}
 use Rattle.std.proofs.lemmas.Nat.{pow_pos}
 use Rattle.std.proofs.Math.Nat.{mod-lt, suc-mul, zero-mul}
 use Rattle.std.proofs.lemmas.Slice.Eq.{bytes_eq-Decides}
-use Rattle.castor_val.specs.declared.row.Row.{Row}
 use Rattle.castor_alg.specs.declared.held.Entry.{Entry}
 use Rattle.castor_alg.specs.declared.held.Held.{Held, Keyed}
-use Rattle.castor_alg.specs.Sorting.{row_lt, sorted}
+use Rattle.castor_alg.specs.Sorting.{sorted}
 use Rattle.castor_fixed.specs.Fields.{width, field}
 use Rattle.castor_fixed.proofs.FieldLaws.{length-field}
-use Rattle.castor_dir.specs.Buckets.{bucket, bucket_count, by_bucket, places}
+use Rattle.castor_dir.specs.Buckets.{bucket_count}
 use Rattle.castor_code.specs.declared.code.Range.{Range}
 use Rattle.castor_code.specs.Shapes.{keyed_of}
-use Rattle.castor_code.specs.Steps.{next, when, many}
+use Rattle.castor_code.specs.Steps.{next, many}
 use Rattle.castor_code.specs.Pieces.{Piece, one_after_other, behind_number}
-use Rattle.castor_code.specs.Directories.{rises, key_lt, ascending, bucket_of, bucketed, bucket_starts, entry_starts, offset_fields, index_piece, hash_piece, ord_piece}
-use Rattle.castor_code.specs.Readings.{Read, Reader, ranged, begins, confirmed, index_read, hash_offsets, ord_offsets}
+use Rattle.castor_code.specs.Directories.{key_lt, ascending, bucket_of, bucketed, bucket_starts, entry_starts, offset_fields, index_piece, hash_piece, ord_piece}
+use Rattle.castor_code.specs.Readings.{Read, ranged, begins, confirmed, index_read, hash_offsets, ord_offsets}
 use Rattle.castor_code.proofs.ShapeLaws.{is_keyed}
-use Rattle.castor_code.proofs.StepLaws.{got, next_of, Came, came, when_holds, Let, let_through}
+use Rattle.castor_code.proofs.StepLaws.{got, next_of, came, when_holds, let_through}
 use Rattle.castor_code.proofs.ValueLaws.{before_piece}
 use Rattle.castor_code.proofs.PartLaws.{Again, many_again}
 use Rattle.castor_code.proofs.BucketLaws.{length-by_bucket, sorted-rising, sorted-bucketed}

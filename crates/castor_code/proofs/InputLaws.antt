@@ -1,13 +1,13 @@
 -- Parts of codes: what is written is read, and what is read is so written.
-use Rattle.std.proofs.Common.{◌≡◌, ◌∙◌, ℕ, zero, suc, ◌+◌, ◌-◌, ◌<◌, ◌≤◌, max, nat_lt, nat_le, List, [], ◌∷◌, ◌++◌, map, length, Bool, true, false, ◌&&◌, if◌then◌else◌, Option, Some, None, subst, ap, sym, refl, arith, append_assoc}
+use Rattle.std.proofs.Common.{◌≡◌, ◌∙◌, ℕ, zero, suc, ◌+◌, ◌-◌, ◌<◌, ◌≤◌, max, nat_lt, List, [], ◌∷◌, ◌++◌, map, length, Bool, true, false, if◌then◌else◌, Some, None, subst, ap, sym, refl, arith, append_assoc}
 use Rattle.std.proofs.lemmas.Bool.{and_parts, and_from, lt-ltb, le-leb, leb-true, ltb-true}
-use Rattle.std.proofs.lemmas.Option.{some_pair_parts, none-some, cond_some}
+use Rattle.std.proofs.lemmas.Option.{some_pair_parts, none-some}
 use Rattle.castor_fixed.specs.Fields.{field, number}
 use Rattle.castor_fixed.proofs.FieldLaws.{number-field, number-taken}
 use Rattle.castor_code.specs.Steps.{next, when, many, in_pair, made, passing}
-use Rattle.castor_code.specs.Forms.{Form, plain, then_form, in_turn, only_if, number_form, u8_form, u16_form, node, list_form}
-use Rattle.castor_code.specs.CodeReadings.{Input, Parse, number_in, u8_in, u16_in, told, with_left, list_in, tag_in}
-use Rattle.castor_code.proofs.StepLaws.{got, next_of, Came, came, when_holds, Let, let_through}
+use Rattle.castor_code.specs.Forms.{Form, plain, then_form, in_turn, only_if, number_form, u16_form, node, list_form}
+use Rattle.castor_code.specs.CodeReadings.{Input, Parse, number_in, u8_in, u16_in, list_in, tag_in}
+use Rattle.castor_code.proofs.StepLaws.{got, next_of, came, when_holds, let_through}
 
 -- what is left to read before a part is read
 abbrev pub front : Form → Input → Input

@@ -7,7 +7,6 @@ use Rattle.castor_code.specs.declared.tag.CodeTag.{CodeTag}
 use Rattle.castor_code.specs.declared.tag.ExprTag.{ExprTag}
 use Rattle.castor_code.specs.CodeAnswers.{Takes}
 use Rattle.castor_code.specs.CodeReadings.{Input, told, with_left, tag_in, expr_tag, expr_after, expr_in, code_tag, code_after, code_in}
-use Rattle.castor_code.specs.Steps.{next}
 use Rattle.castor_code.proofs.StepLaws.{next_of}
 
 -- the kind of a node, from its tag

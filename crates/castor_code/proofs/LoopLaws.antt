@@ -1,13 +1,13 @@
 -- Loops that read one thing after the other.
-use Rattle.std.proofs.Common.{◌≡◌, ◌∙◌, ℕ, zero, suc, ◌+◌, ◌-◌, ◌<◌, ◌≤◌, List, [], ◌∷◌, ◌++◌, length, ◌⊎◌, inl, inr, Result, Ok, Err, true, Option, Some, None, ap, sym, refl, arith, append_assoc, append-nil}
+use Rattle.std.proofs.Common.{◌≡◌, ◌∙◌, ℕ, zero, suc, ◌+◌, ◌-◌, ◌<◌, ◌≤◌, List, [], ◌∷◌, ◌++◌, length, ◌⊎◌, inl, inr, Result, Ok, Err, Option, Some, None, ap, sym, refl, arith, append_assoc, append-nil}
 use Rattle.std.proofs.lemmas.Bool.{lt-ltb}
 use Rattle.castor_code.specs.declared.decoding.CodeError.{CodeError}
 use Rattle.castor_code.specs.declared.decoding.CodeError.TheVariants.{NotCode, Memory}
 use Rattle.castor_code.specs.CodeAnswers.{Takes}
 use Rattle.castor_code.specs.CodeForms.{is_some_list}
-use Rattle.castor_code.specs.CodeReadings.{Input, Parse, u16_in, list_in, some_in}
+use Rattle.castor_code.specs.CodeReadings.{Input, Parse, u16_in, some_in}
 use Rattle.castor_code.specs.Steps.{next, when, many, behind}
-use Rattle.castor_code.proofs.StepLaws.{got, next_of, Came, came, when_holds}
+use Rattle.castor_code.proofs.StepLaws.{got, next_of, came, when_holds}
 use Rattle.std.proofs.lemmas.Option.{some_pair_parts}
 
 module _ {X S : Type 0} (one : S → Option (X × S)) where

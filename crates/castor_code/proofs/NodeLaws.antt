@@ -1,5 +1,5 @@
 -- Nodes behind their tags, and values: what is written is read, and what is read is so written.
-use Rattle.std.proofs.Common.{◌≡◌, ◌∙◌, ℕ, zero, suc, ℤ, ◌+◌, ◌-◌, ◌^◌, ◌<◌, ◌≤◌, nat_lt, nat_le, List, [], ◌∷◌, ◌++◌, take, drop, length, Bool, true, false, ◌&&◌, if◌then◌else◌, Option, Some, None, subst, ap, sym, refl, arith, append_assoc, length-append}
+use Rattle.std.proofs.Common.{◌≡◌, ◌∙◌, ℕ, zero, suc, ℤ, ◌+◌, ◌^◌, ◌<◌, nat_le, List, ◌++◌, take, drop, length, Bool, true, false, ◌&&◌, Option, Some, None, subst, ap, sym, refl, arith, length-append}
 use Rattle.std.specs.Int.{cast_signed, cast_unsigned, w64}
 use Rattle.std.specs.Str.{is_utf8}
 use Rattle.std.proofs.Math.Facts.{Fits-lt-pow, Fits-of_lt, Fits-of_z, sfits_to_z}
@@ -9,12 +9,11 @@ use Rattle.std.proofs.lemmas.List.{take_at, drop_at, take-append-drop, length-ta
 use Rattle.std.proofs.lemmas.Option.{some_pair_parts, none-some, same_Some}
 use Rattle.castor_val.specs.Values.{is_int}
 use Rattle.castor_val.proofs.FieldLaws.{fits_from_is_int, is_int-from_fits}
-use Rattle.castor_fixed.specs.Fields.{field}
-use Rattle.castor_code.specs.Steps.{next, when, many, made}
-use Rattle.castor_code.specs.Forms.{Form, plain, then_form, number_form, u8_form, u16_form, u64_form, int_form, bool_form, text_form, node}
-use Rattle.castor_code.specs.CodeReadings.{Input, Parse, number_in, u8_in, u16_in, u64_in, int_in, bool_of, bool_in, with_left, told, utf8_in, text_in, tag_in}
-use Rattle.castor_code.proofs.StepLaws.{got, next_of, Came, came, when_holds, Let, let_through}
-use Rattle.castor_code.proofs.InputLaws.{front, Good, Reads, Writes, same_input, front_then, first_good, second_good, both_good, number_reads, number_writes, parts_good, no_level, node_good, tag_reads, tag_writes}
+use Rattle.castor_code.specs.Steps.{made}
+use Rattle.castor_code.specs.Forms.{Form, plain, u8_form, u16_form, u64_form, int_form, bool_form, text_form, node}
+use Rattle.castor_code.specs.CodeReadings.{Input, Parse, u8_in, u16_in, u64_in, int_in, bool_of, bool_in, with_left, told, utf8_in, text_in}
+use Rattle.castor_code.proofs.StepLaws.{got, next_of, came, when_holds, let_through}
+use Rattle.castor_code.proofs.InputLaws.{front, Good, Reads, Writes, same_input, front_then, first_good, second_good, both_good, number_reads, number_writes}
 
 -- what a thing that was read is written as: a node of this tag, and its parts
 pub record Node {Y : Type 0} (levels tag : ℕ) (forms : Y → Form) (s t : Input) (y : Y) : Type 0 where

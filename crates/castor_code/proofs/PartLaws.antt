@@ -1,19 +1,18 @@
 -- Parts, children and entries: what is written is read, and what is read is so written.
-use Rattle.std.proofs.Common.{◌≡◌, ◌∙◌, ℕ, zero, suc, ◌+◌, ◌≤◌, eqb, List, [], ◌∷◌, ◌++◌, map, length, Bool, true, false, ◌&&◌, Option, Some, None, subst, ap, sym, refl, arith, append_assoc, length-append}
+use Rattle.std.proofs.Common.{◌≡◌, ◌∙◌, ℕ, zero, suc, ◌+◌, eqb, List, [], ◌∷◌, ◌++◌, map, length, true, Option, Some, None, ap, sym, refl, arith, append_assoc, length-append}
 use Rattle.std.proofs.lemmas.Bool.{and_parts, and_from, eq-eqb, eqb-true}
 use Rattle.std.proofs.lemmas.Option.{some_pair_parts}
 use Rattle.castor_val.specs.declared.value.Value.{Value}
-use Rattle.castor_alg.specs.declared.held.Entry.{Entry}
-use Rattle.castor_alg.specs.declared.held.Held.{Held, Leaf, Parts, Rows, Inner}
+use Rattle.castor_alg.specs.declared.held.Held.{Held, Leaf}
 use Rattle.castor_code.specs.declared.code.Range.{Range}
-use Rattle.castor_code.specs.Shapes.{leaf_of, parts_of, rows_of, inner_of}
-use Rattle.castor_code.specs.Steps.{next, when, many}
-use Rattle.castor_code.specs.Pieces.{Piece, empty_piece, both, one_after_other, side_by_side, parts_piece, inner_piece, behind_number, list_piece}
+use Rattle.castor_code.specs.Shapes.{parts_of, rows_of, inner_of}
+use Rattle.castor_code.specs.Steps.{many}
+use Rattle.castor_code.specs.Pieces.{Piece, one_after_other, side_by_side, parts_piece, inner_piece, behind_number, list_piece}
 use Rattle.castor_code.specs.Directories.{entry_piece}
-use Rattle.castor_code.specs.Readings.{Read, Reader, ranged, in_order, parts_read, inner_read, list_read, value_in, entry_read}
+use Rattle.castor_code.specs.Readings.{Read, ranged, in_order, parts_read, inner_read, list_read, entry_read}
 use Rattle.castor_code.specs.Data.{Format, writers, readers}
-use Rattle.castor_code.proofs.ShapeLaws.{parts_of-Parts, rows_of-Rows, inner_of-Inner, are_parts, are_rows, is_inner, leaf_values, leaf_of-Leaf, is_leaf}
-use Rattle.castor_code.proofs.StepLaws.{got, next_of, Came, came, when_holds, Let, let_through}
+use Rattle.castor_code.proofs.ShapeLaws.{parts_of-Parts, rows_of-Rows, inner_of-Inner, are_parts, are_rows, is_inner, leaf_values}
+use Rattle.castor_code.proofs.StepLaws.{got, next_of, came, when_holds, let_through}
 use Rattle.castor_code.proofs.ValueLaws.{before_piece, behind_taken}
 
 -- what is written is read, whatever comes after it

@@ -1,5 +1,5 @@
 -- What is written, one part after the other.
-use Rattle.std.proofs.Common.{◌≡◌, ◌∙◌, ℕ, ◌+◌, ◌<◌, ◌≤◌, nat_le, nat_lt, ◌==◌, Bool, List, [], ◌∷◌, ◌++◌, map, drop, length, get_or, true, ◌&&◌, ap, sym, append_assoc, append-nil}
+use Rattle.std.proofs.Common.{◌≡◌, ◌∙◌, ℕ, ◌+◌, ◌<◌, ◌≤◌, nat_le, nat_lt, ◌==◌, Bool, List, ◌++◌, map, drop, length, get_or, true, ◌&&◌, ap, sym, append_assoc, append-nil}
 use Rattle.std.proofs.lemmas.Bool.{and_parts, and_from}
 use Rattle.std.proofs.lemmas.List.{drop_more, drop_all}
 use Rattle.castor_alg.specs.declared.expr.Expr.{Expr}

@@ -1,5 +1,5 @@
 -- Ints counted from the least of a range.
-use Rattle.std.proofs.Common.{◌≡◌, ◌∙◌, ℕ, suc, ℤ, pos, negsuc, ◌+ℤ◌, ◌+◌, ◌-◌, ◌≤◌, ltb, true, false, ap, arith}
+use Rattle.std.proofs.Common.{◌≡◌, ◌∙◌, ℕ, suc, ℤ, pos, negsuc, ◌+ℤ◌, ◌+◌, ◌-◌, ◌≤◌, ltb, true, ap, arith}
 use Rattle.std.specs.Int.{int_gap}
 use Rattle.std.proofs.lemmas.Bool.{ltb-true, ltb-false, not-true, cond-true, cond-false, cond_both, lt-ltb, le-ltb}
 use Rattle.castor_code.specs.Pieces.{at_most_int}

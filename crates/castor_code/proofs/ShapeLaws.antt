@@ -1,5 +1,5 @@
 -- Held data is known by its shape.
-use Rattle.std.proofs.Common.{◌≡◌, ◌∙◌, List, [], ◌∷◌, map, ap, sym, refl, Option, Some, None}
+use Rattle.std.proofs.Common.{◌≡◌, ◌∙◌, List, [], ◌∷◌, map, ap, sym, refl, Some}
 use Rattle.std.proofs.lemmas.Option.{same_Some, none-some}
 use Rattle.castor_val.specs.declared.value.Value.{Value}
 use Rattle.castor_alg.specs.declared.held.Entry.{Entry}

@@ -1,12 +1,12 @@
 -- The reads of a skip are few beside the nodes of a code.
-use Rattle.std.proofs.Common.{◌≡◌, ◌∙◌, ℕ, ◌+◌, ◌-◌, ◌*◌, ◌^◌, ◌≤◌, min, sum, List, [], ◌∷◌, map, true, ap, sym, arith}
+use Rattle.std.proofs.Common.{◌≡◌, ℕ, ◌+◌, ◌-◌, ◌*◌, ◌^◌, ◌≤◌, min, sum, List, [], ◌∷◌, map, true, arith}
 use Rattle.std.proofs.lemmas.Bool.{and_parts, leb-true}
 use Rattle.std.proofs.lemmas.List.Sums.{sum_by-cons}
 use Rattle.castor_code.specs.declared.code.Code.{Code}
 use Rattle.castor_code.specs.Skips.{skip, skip_step}
 use Rattle.castor_code.specs.Forms.{in_turn}
 use Rattle.castor_code.specs.CodeForms.{CodeForm, code_form, code_form_step, form_in, is_well_formed}
-use Rattle.castor_code.proofs.CodeInduction.{With, codes, CodeCases, code_induction, fold-Int, fold-Bool, fold-Text, fold-Cross, fold-Concat, fold-List, fold-Hash, fold-Ord, fold-Select, fold-Filter, fold-Dep, fold-Group, fold-Order, fold-Dedup}
+use Rattle.castor_code.proofs.CodeInduction.{With, codes, code_induction, fold-Int, fold-Bool, fold-Text, fold-Cross, fold-Concat, fold-List, fold-Hash, fold-Ord, fold-Select, fold-Filter, fold-Dep, fold-Group, fold-Order, fold-Dedup}
 
 abbrev Few : Code → Type 0
 Few c = skip c ≤ 2 * (code_form c).form.nodes

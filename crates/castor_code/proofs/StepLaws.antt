@@ -1,6 +1,6 @@
 -- Readings one after the other.
-use Rattle.std.proofs.Common.{◌≡◌, ◌∙◌, ℕ, zero, suc, List, [], ◌∷◌, Bool, true, Option, Some, None, ap, sym, refl}
-use Rattle.std.proofs.lemmas.Option.{cond_some, some_pair_parts, none-some}
+use Rattle.std.proofs.Common.{◌≡◌, Bool, true, Option, Some, None, ap, refl}
+use Rattle.std.proofs.lemmas.Option.{cond_some, none-some}
 use Rattle.castor_code.specs.Steps.{next, when}
 
 -- what was read, and what is left

@@ -4,7 +4,6 @@ use Rattle.std.specs.Option.{option_copied}
 use Rattle.std.specs.Slice.{IsItemAt}
 use Rattle.std.proofs.lemmas.Bool.{ltb-false, le-ltb, ltb-true}
 use Rattle.std.proofs.lemmas.Option.{slice_get_past, slice_get_read}
-use Rattle.castor_code.specs.declared.tag.CodeTag.{CodeTag}
 use Rattle.castor_code.specs.CodeReadings.{code_tags, code_tag}
 
 -- what a slice gives at a place

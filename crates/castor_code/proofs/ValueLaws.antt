@@ -1,5 +1,5 @@
 -- Values and numbers: what is written is read, and what is read is so written.
-use Rattle.std.proofs.Common.{◌≡◌, ◌∙◌, ℕ, zero, suc, ℤ, pos, ◌+ℤ◌, ◌+◌, ◌-◌, ◌≤◌, nat_le, List, [], ◌∷◌, ◌++◌, take, drop, length, Bool, true, false, ◌&&◌, if◌then◌else◌, Option, Some, None, subst, ap, sym, refl, arith, append_assoc, length-append}
+use Rattle.std.proofs.Common.{◌≡◌, ◌∙◌, ℕ, zero, suc, ℤ, pos, ◌+ℤ◌, ◌+◌, ◌-◌, nat_le, List, [], ◌∷◌, ◌++◌, take, drop, length, Bool, true, false, if◌then◌else◌, Option, Some, None, subst, ap, sym, refl, arith, append_assoc, length-append}
 use Rattle.std.proofs.lemmas.Bool.{and_parts, and_from, le-leb, leb-true}
 use Rattle.std.proofs.lemmas.Option.{some_pair_parts, none-some}
 use Rattle.std.proofs.lemmas.List.{take_at, drop_at, take-append-drop, length-take-le}
@@ -8,16 +8,16 @@ use Rattle.std.specs.Str.{is_utf8}
 use Rattle.castor_val.specs.declared.value.Value.{Value}
 use Rattle.castor_val.specs.declared.value.Value.TheVariants.{Int, Bool as Truth, Text}
 use Rattle.castor_alg.specs.declared.held.Held.{Held, Leaf}
-use Rattle.castor_fixed.specs.Fields.{field, number}
+use Rattle.castor_fixed.specs.Fields.{field}
 use Rattle.castor_fixed.proofs.FieldLaws.{number-field, number-taken}
 use Rattle.castor_code.specs.declared.code.Range.{Range}
 use Rattle.castor_code.specs.Shapes.{leaf_of}
-use Rattle.castor_code.specs.Steps.{next, when}
-use Rattle.castor_code.specs.Pieces.{Piece, at_most_int, within_int, within, ranged_field, behind_number, int_piece, bool_piece, text_piece}
+use Rattle.castor_code.specs.Steps.{when}
+use Rattle.castor_code.specs.Pieces.{Piece, within_int, within, ranged_field, behind_number, int_piece, bool_piece, text_piece}
 use Rattle.castor_code.specs.Readings.{ranged, int_read, bool_read, text_read}
 use Rattle.castor_code.proofs.RangeLaws.{counted_back, counted_within, count_of}
 use Rattle.castor_code.proofs.ShapeLaws.{leaf_of-Leaf, is_leaf}
-use Rattle.castor_code.proofs.StepLaws.{got, next_of, Came, came, when_holds, Let, let_through}
+use Rattle.castor_code.proofs.StepLaws.{got, next_of, came, when_holds, let_through}
 
 -- a number of a range is read from its field
 pub ranged_again : (r : Range) (n : ℕ) (rest : List ℕ) → within r n ≡ true → ranged r (ranged_field r n ++ rest) ≡ Some (n, rest)

@@ -1,6 +1,5 @@
 -- The bytes of codes, and the codes that are well formed.
-use Rattle.std.specs.Prelude.{◌≡◌, ℕ, ℤ, nat_lt, nat_le, ◌==◌, List, [], ◌∷◌, map, length, Bool, true, false, ◌&&◌, ◌||◌}
-use Rattle.std.specs.List.{list_all}
+use Rattle.std.specs.Prelude.{◌≡◌, ℕ, ℤ, nat_lt, nat_le, ◌==◌, List, [], map, length, Bool, true, false, ◌&&◌, ◌||◌}
 use Rattle.castor_val.specs.declared.value.Value.{Value}
 use Rattle.castor_val.specs.declared.value.Value.TheVariants.{Int, Bool as Truth, Text}
 use Rattle.castor_alg.specs.declared.expr.Op.{Op}

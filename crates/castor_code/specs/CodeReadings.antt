@@ -2,7 +2,6 @@
 use Rattle.std.specs.Prelude.{ℕ, zero, suc, ◌-◌, ℤ, nat_lt, nat_le, ◌==◌, List, [], ◌∷◌, take, drop, length, slice_get, Bool, true, false, ◌&&◌, ◌||◌, if◌then◌else◌, Option, Some, None}
 use Rattle.std.specs.Int.{cast_signed, w64}
 use Rattle.std.specs.Str.{is_utf8}
-use Rattle.castor_val.specs.declared.value.Value.{Value}
 use Rattle.castor_val.specs.declared.value.Value.TheVariants.{Int, Bool as Truth, Text}
 use Rattle.castor_alg.specs.declared.expr.Op.{Op}
 use Rattle.castor_alg.specs.declared.expr.Op.TheVariants.{Or, And, Eq, Ne, Lt, Le, Gt, Ge, Add, Sub, Mul, Div, Rem}

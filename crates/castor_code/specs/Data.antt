@@ -8,7 +8,7 @@ use Rattle.castor_code.specs.declared.code.Range.{Range}
 use Rattle.castor_code.specs.Shapes.{leaf_of, parts_of, rows_of, keyed_of, inner_of}
 use Rattle.castor_code.specs.Pieces.{Piece, int_piece, bool_piece, text_piece, parts_piece, inner_piece, list_piece}
 use Rattle.castor_code.specs.Directories.{entry_piece, hash_piece, ord_piece}
-use Rattle.castor_code.specs.Readings.{Read, Reader, int_read, bool_read, text_read, parts_read, inner_read, list_read, entry_read, index_read, hash_offsets, ord_offsets}
+use Rattle.castor_code.specs.Readings.{Reader, int_read, bool_read, text_read, parts_read, inner_read, list_read, entry_read, index_read, hash_offsets, ord_offsets}
 
 -- how held data is written, and how it is read
 pub record Format : Type 0 where

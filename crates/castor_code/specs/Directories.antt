@@ -1,7 +1,6 @@
 -- The bytes of indexes: entries behind a directory that says where they stand.
 use Rattle.std.specs.Prelude.{ℕ, ◌+◌, List, [], ◌∷◌, ◌++◌, map, take, length, Bool, true, ◌&&◌, Option, Some, None}
 use Rattle.std.specs.List.{flat_map, list_all, range_with_len}
-use Rattle.castor_val.specs.declared.row.Row.{Row}
 use Rattle.castor_alg.specs.declared.held.Entry.{Entry}
 use Rattle.castor_alg.specs.declared.held.Held.{Held, Leaf}
 use Rattle.castor_alg.specs.Sorting.{row_lt}

@@ -1,5 +1,5 @@
 -- The form of parts of codes: their bytes, and what decides whether they are well formed.
-use Rattle.std.specs.Prelude.{ℕ, ◌+◌, ◌-◌, ◌^◌, max, ℤ, nat_lt, nat_le, List, [], ◌∷◌, ◌++◌, map, length, Bool, true, ◌&&◌, if◌then◌else◌}
+use Rattle.std.specs.Prelude.{ℕ, ◌+◌, max, ℤ, nat_le, List, [], ◌∷◌, ◌++◌, map, length, Bool, true, ◌&&◌, if◌then◌else◌}
 use Rattle.std.specs.Int.{cast_unsigned, w64}
 use Rattle.std.specs.Str.{is_utf8}
 use Rattle.castor_val.specs.Values.{is_int}

@@ -1,5 +1,5 @@
 -- Reading from the front of bytes.
-use Rattle.std.specs.Prelude.{ℕ, zero, suc, ℤ, pos, ◌+◌, ◌-◌, ◌*◌, ◌+ℤ◌, nat_le, List, [], ◌∷◌, map, take, drop, length, ◌==◌, Bool, true, false, ◌&&◌, if◌then◌else◌, Option, Some, None}
+use Rattle.std.specs.Prelude.{ℕ, zero, suc, ℤ, pos, ◌+◌, ◌-◌, ◌*◌, ◌+ℤ◌, nat_le, List, [], ◌∷◌, map, take, drop, length, ◌==◌, Bool, true, false, ◌&&◌, Option, Some, None}
 use Rattle.std.specs.Int.{int_gap}
 use Rattle.std.specs.Str.{bytes_eq, is_utf8}
 use Rattle.castor_val.specs.declared.value.Value.{Value}

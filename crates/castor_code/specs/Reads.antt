@@ -6,7 +6,6 @@ use Rattle.castor_val.specs.declared.row.Row.{Row}
 use Rattle.castor_val.specs.Values.{same_row}
 use Rattle.castor_alg.specs.declared.held.Entry.{Entry}
 use Rattle.castor_alg.specs.declared.held.Held.{Held}
-use Rattle.castor_alg.specs.declared.out.Out.{Out}
 use Rattle.castor_alg.specs.Expression.{expr_values}
 use Rattle.castor_alg.specs.Indexes.{lower, upper}
 use Rattle.castor_alg.specs.Scopes.{Scopes, bind}

@@ -1,13 +1,11 @@
 use Rattle.std.proofs.Common.{◌≡◌, ◌∙◌, ◌++◌, List, length, map, rules, ap}
 use Rattle.std.proofs.lemmas.Result.{on_ok_weaker}
-use Rattle.castor_alg.specs.declared.expr.Expr.{Expr}
 use Rattle.castor_fixed.specs.Fields.{field}
 use Rattle.castor_code.specs.declared.code.Code.{Code}
 use Rattle.castor_code.specs.declared.code.Code.TheFolds.{the_lemmas}
 use Rattle.castor_code.specs.declared.code.Code as C
-use Rattle.castor_code.specs.declared.code.Code.TheOpen as F
 use Rattle.castor_code.specs.Forms.{in_turn, node, u32_form, u8_form}
-use Rattle.castor_code.specs.CodeForms.{CodeForm, bound_form, code_bytes, code_form, code_form_step, dep_head, form_in, hash_head, hash_tail, int_parts, key_code_form, key_codes_form, list_parts, ord_head, ord_tail, ranges_form, some_form}
+use Rattle.castor_code.specs.CodeForms.{CodeForm, code_bytes, code_form, code_form_step, dep_head, form_in, hash_head, hash_tail, int_parts, key_code_form, key_codes_form, list_parts, ord_head, ord_tail, ranges_form, some_form}
 use Rattle.castor_code.proofs.CodeInduction.{fold-Int, fold-Cross, fold-Concat, fold-List, fold-Hash, fold-Ord, fold-Dep}
 use Rattle.castor_code.proofs.PutLaws.{code_put, dep_known, hash_known, ord_known, three_put, three_then, two_then}
 use Rattle.castor_code.proofs.encoding.codes.+put.Goals as goal

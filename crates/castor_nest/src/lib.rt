@@ -8,6 +8,8 @@ pub mod columns;
 pub mod rule_error;
 pub mod rules;
 pub mod store;
+#[cfg(test)]
+mod tests;
 
 pub use columns::{column_count, columns_are_counted};
 pub use rule_error::RuleError;

@@ -7,6 +7,8 @@ pub mod known_keys;
 mod made;
 pub mod settled;
 pub mod step_error;
+#[cfg(test)]
+mod tests;
 
 pub use finishing::finish;
 pub use known_keys::{known_keys_are_true, orders};

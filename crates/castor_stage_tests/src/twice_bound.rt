@@ -64,6 +64,11 @@ fn twice_bound(alloc: Global, outer: Binder, inner: Binder, reader: Reader) -> R
     outer.over(alloc, body)
 }
 
+// Why a query that was made is refused, and None where it isn't.
+fn made_refusal(query: Result<Rel, Memory>) -> Result<Option<StageError>, Memory> {
+    Ok(refusal_of(&query?))
+}
+
 #[test]
 fn the_innermost_binder_of_a_number_counts(rt: HostRuntime) -> Result<(), Fail> {
     let cases = [
@@ -83,8 +88,8 @@ fn the_innermost_binder_of_a_number_counts(rt: HostRuntime) -> Result<(), Fail> 
         ),
     ];
     for case in cases.as_slice() {
-        let query = twice_bound(rt.alloc(), case.0, case.1, case.2)?;
-        assert_eq!(rt; refusal_of(&query), case.3);
+        let found = made_refusal(twice_bound(rt.alloc(), case.0, case.1, case.2))?;
+        assert_eq!(rt; found, case.3);
     }
     Ok(())
 }
@@ -104,10 +109,10 @@ fn a_scope_is_in_force_in_its_body_alone(rt: HostRuntime) -> Result<(), Fail> {
         (Reader::Filter, StageError::BuildScopeAtRun),
     ];
     for case in cases.as_slice() {
-        let unbound = case.0.query(rt.alloc())?;
-        assert_eq!(rt; refusal_of(&unbound), Some(case.1));
-        let behind = read_behind(rt.alloc(), case.0)?;
-        assert_eq!(rt; refusal_of(&behind), Some(case.1));
+        let unbound = made_refusal(case.0.query(rt.alloc()))?;
+        assert_eq!(rt; unbound, Some(case.1));
+        let behind = made_refusal(read_behind(rt.alloc(), case.0))?;
+        assert_eq!(rt; behind, Some(case.1));
     }
     Ok(())
 }
@@ -126,10 +131,15 @@ fn rebound_for_each_step(alloc: Global) -> Result<Rel, Memory> {
     Ok(Rel::List(0, source, body))
 }
 
+// Whether this is held for a query that was made.
+fn made_holds(alloc: Global, query: Result<Rel, Memory>, due: &str) -> Result<bool, Memory> {
+    Ok(is_text(text_of(alloc, held(alloc, &query?)), due))
+}
+
 #[test]
 fn the_innermost_row_of_a_number_is_held(rt: HostRuntime) -> Result<(), Fail> {
     let alloc = rt.alloc();
-    let query = rebound_for_each_step(alloc)?;
-    assert!(rt; is_text(text_of(alloc, held(alloc, &query)), "[ [ 5] [ 7] [ 4]]"));
+    let is_so = made_holds(alloc, rebound_for_each_step(alloc), "[ [ 5] [ 7] [ 4]]")?;
+    assert!(rt; is_so);
     Ok(())
 }

@@ -11,16 +11,20 @@ folder=$(mktemp -d)
 trap 'rm -rf "$folder"' EXIT
 cd "$folder"
 
+# The seconds of a run of a command.
+seconds_of() {
+    local start
+    start=$(date +%s%N)
+    "$@"
+    awk -v ns=$(($(date +%s%N) - start)) 'BEGIN { printf "%.4f", ns / 1e9 }'
+}
+
 # The seconds of the fastest of three runs of a command.
 best_of_three() {
-    local best= start end
     for _ in 1 2 3; do
-        start=$(date +%s%N)
-        "$@"
-        end=$(date +%s%N)
-        if [ -z "$best" ] || [ $((end - start)) -lt "$best" ]; then best=$((end - start)); fi
-    done
-    awk -v ns="$best" 'BEGIN { printf "%.4f", ns / 1e9 }'
+        seconds_of "$@"
+        echo
+    done | sort -n | head -n 1
 }
 
 # A table of orders with so many rows, as CSV.

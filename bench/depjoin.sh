@@ -22,13 +22,6 @@ echo 'finish;' >finish.script
     awk '{ printf "select p.id, p.total - o.total from orders o, orders p where o.id = %s and p.cust = o.cust;\n", $0 }' questions
 } >peer.sql
 
-seconds_of() {
-    local start
-    start=$(date +%s%N)
-    "$@"
-    echo $((($(date +%s%N) - start) / 1000000)) | awk '{ printf "%.3f", $1 / 1000 }'
-}
-
 ask_castor() {
     "$castor" answer depjoin.query finish.script <questions >castor.out
 }

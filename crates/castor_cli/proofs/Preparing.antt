@@ -21,7 +21,7 @@ use Rattle.castor_cli.specs.declared.status.Status.TheVariants as status
 use Rattle.castor_cli.specs.Causes.{IsDue, IsDueAmong, IsDueLater, IsOfPart, IsRefusal, NamesDeclared, NamesOneOf, NamesTable, PartRefused, PreparationRefused, RestRefused, RoseWhere, SpeaksOf, TablesRefused, file_of_status, nth_name}
 use Rattle.castor_cli.specs.After.{after}
 use Rattle.castor_cli.specs.Building.{built, checked_last, if_finished, if_held, if_ordered, if_staged, keeps_order}
-use Rattle.castor_cli.specs.Preparation.{Broken, IsPrepared, IsQueryIn, script_in, tables_behind, tables_in, with_query}
+use Rattle.castor_cli.specs.Preparation.{Broken, IsPrepared, IsQueryIn, ready_with, script_in, tables_behind, tables_in, with_query}
 use Rattle.castor_cli.specs.Status.{table_file}
 use Rattle.castor_cli.proofs.Tables.{both_told, if_told, if_told_later, rose_where_up}
 
@@ -145,9 +145,9 @@ last_refuses q ts final s is =
 built_refuses : (c : Checked) (ts : List Table) (s : Status) → built c ts ≡ Err s → IsOfBuild s
 built_refuses c ts s is = after_refuses (if_finished (finish_of (context_of c).tables c.query)) (checked_last c.query ts) s (λ why e. finish_refuses _ why e) (λ final why e. last_refuses c.query ts final why e) is
 
-build_refuses : (c : Checked) (ts : List Table) (s : Status) → (s ≡ status.Memory) ⊎ (built c ts ≡ Err s) → IsOfBuild s
+build_refuses : (c : Checked) (ts : List Table) (s : Status) → (s ≡ status.Memory) ⊎ (ready_with c ts ≡ Err s) → IsOfBuild s
 build_refuses c ts s (inl memory) = subst IsOfBuild (sym memory) tt
-build_refuses c ts s (inr is) = built_refuses c ts s is
+build_refuses c ts s (inr is) = after_refuses (built c ts) _ s (λ why e. built_refuses c ts why e) (λ final why e. cc e) is
 
 build_refusal : (s : Status) → IsOfBuild s → IsRefusal s
 build_refusal (status.Script why) of = tt
@@ -161,26 +161,26 @@ build_speaks told_after rose query script ds (status.Build why) of = ([], tt, tt
 build_speaks told_after rose query script ds status.Memory of = ([], tt, tt)
 build_speaks told_after rose query script ds s of = absurd of
 
-build_due : (files : Files) (script : List ℕ) (c : Checked) (ts : List Table) (s : Status) → (s ≡ status.Memory) ⊎ (built c ts ≡ Err s) → tables_behind None files script c ≡ Ok ts → IsDueLater (λ broken. with_query broken files script c) s
+build_due : (files : Files) (script : List ℕ) (c : Checked) (ts : List Table) (s : Status) → (s ≡ status.Memory) ⊎ (ready_with c ts ≡ Err s) → tables_behind None files script c ≡ Ok ts → IsDueLater (λ broken. with_query broken files script c) s
 build_due files script c ts s (inl memory) loaded = inl memory
-build_due files script c ts s (inr is) loaded = inr (None, refl, tt, rw (loaded, is) refl)
+build_due files script c ts s (inr is) loaded = inr (None, refl, tt, rw loaded is)
 
 -- the final query was refused
 pub rest_at_build : (told told_after : Option Files) (rose : List ℕ → Type 0) (query script : List ℕ) (c : Checked) (ts : List Table) (s : Status)
-    → IfSome told (λ (files : Files). tables_behind None files script c ≡ Ok ts) → (s ≡ status.Memory) ⊎ (built c ts ≡ Err s) → RestRefused told told_after rose query script c s
+    → IfSome told (λ (files : Files). tables_behind None files script c ≡ Ok ts) → (s ≡ status.Memory) ⊎ (ready_with c ts ≡ Err s) → RestRefused told told_after rose query script c s
 rest_at_build told told_after rose query script c ts s loaded why = record {
   refusal = build_refusal s (build_refuses c ts s why);
   due = if_told told _ _ (λ files. build_due files script c ts s why) loaded;
   speaks = build_speaks told_after rose query script c.tables s (build_refuses c ts s why);
 }
 
-rest_in : (files : Files) (script : List ℕ) (c : Checked) (ts : List Table) (q : Rel) → built c ts ≡ Ok q → tables_behind None files script c ≡ Ok ts → with_query None files script c ≡ Ok (record { checked = c; tables = ts; final_query = q })
-rest_in files script c ts q is loaded = rw (loaded, is) refl
+rest_in : (files : Files) (script : List ℕ) (c : Checked) (ts : List Table) (p : Prepared) → ready_with c ts ≡ Ok p → tables_behind None files script c ≡ Ok ts → with_query None files script c ≡ Ok p
+rest_in files script c ts p is loaded = rw loaded is
 
 -- all behind the query is well
-pub rest_well : (told : Option Files) (script : List ℕ) (c : Checked) (ts : List Table) (q : Rel) → IfSome told (λ (files : Files). tables_behind None files script c ≡ Ok ts) → built c ts ≡ Ok q
-    → IfSome told (λ (files : Files). with_query None files script c ≡ Ok (record { checked = c; tables = ts; final_query = q }))
-rest_well told script c ts q loaded is = if_told told _ _ (λ files. rest_in files script c ts q is) loaded
+pub rest_well : (told : Option Files) (script : List ℕ) (c : Checked) (ts : List Table) (p : Prepared) → IfSome told (λ (files : Files). tables_behind None files script c ≡ Ok ts) → ready_with c ts ≡ Ok p
+    → IfSome told (λ (files : Files). with_query None files script c ≡ Ok p)
+rest_well told script c ts p loaded is = if_told told _ _ (λ files. rest_in files script c ts p is) loaded
 
 -- ---- the query
 

@@ -2,16 +2,12 @@
 use Rattle.std.specs.Prelude.{◌≡◌, ◌==◌, ◌&&◌, List, [], Bool, true, Result, Ok, Err, if◌then◌else◌, not}
 use Rattle.std.specs.List.{starts_with}
 use Rattle.castor_val.specs.declared.fault.Faults.{Faults}
-use Rattle.castor_val.specs.declared.row.Row.{Row}
 use Rattle.castor_val.specs.declared.table.Table.{Table}
-use Rattle.castor_val.specs.Values.{row_fits}
 use Rattle.castor_alg.specs.declared.held.Held.{Held}
 use Rattle.castor_alg.specs.declared.rel.Key.{Key}
 use Rattle.castor_alg.specs.declared.rel.Rel.{Rel, fold-Rel}
 use Rattle.castor_alg.specs.declared.rel.Rel.TheOpen.{Rel-F}
 use Rattle.castor_alg.specs.declared.rel.Rel.TheOpen as rel
-use Rattle.castor_alg.specs.Meaning.{meaning}
-use Rattle.castor_alg.specs.Scopes.{unbound}
 use Rattle.castor_schema.specs.declared.checked.Checked.{Checked}
 use Rattle.castor_schema.specs.WellTyped.{context_of}
 use Rattle.castor_script.specs.declared.step_error.StepError.{StepError}
@@ -85,7 +81,3 @@ checked_last q tables final =
 -- the final query
 abbrev pub built : Checked → List Table → Result Rel Status
 built c tables = after (if_finished (finish_of (context_of c).tables c.query)) (checked_last c.query tables)
-
--- over these tables the final query means what the checked one does, whatever the parameters of their types are
-abbrev pub MeansSame : Checked → List Table → Rel → Type 0
-MeansSame c tables final = (params : Row) → row_fits params (context_of c).params ≡ true → meaning final tables unbound params ≡ meaning c.query tables unbound params

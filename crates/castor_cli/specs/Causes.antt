@@ -9,7 +9,6 @@ use Rattle.castor_val.specs.declared.table.Table.{Table}
 use Rattle.castor_schema.specs.declared.checked.Checked.{Checked}
 use Rattle.castor_schema.specs.declared.checked.Declared.{Declared}
 use Rattle.castor_cli.specs.declared.preparation.Prepared.{Prepared}
-use Rattle.castor_cli.specs.declared.preparation.Rest.{Rest}
 use Rattle.castor_cli.specs.declared.preparation.Stop.{Stop}
 use Rattle.castor_cli.specs.declared.status.Place.{Place}
 use Rattle.castor_cli.specs.declared.status.Place.TheVariants as place
@@ -18,7 +17,6 @@ use Rattle.castor_cli.specs.declared.status.Status.{Status}
 use Rattle.castor_cli.specs.declared.status.Status.TheVariants as status
 use Rattle.castor_alg.specs.Fits.{tables_fit}
 use Rattle.castor_schema.specs.WellTyped.{IsClosed, IsWellTyped, column_types_of, context_of}
-use Rattle.castor_cli.specs.Building.{MeansSame}
 use Rattle.castor_cli.specs.Preparation.{Broken, IsPrepared, IsQueryIn, query_fails, readable, script_in, table_in, tables_behind, tables_in, with_query}
 use Rattle.castor_cli.specs.Status.{table_file}
 
@@ -107,11 +105,6 @@ FitBehind ds old new = (ts : List Table) × (new ≡ old ++ ts) × (tables_fit t
 -- tables have rows of the types that the declarations give them
 abbrev pub TablesFit : Checked → List Table → Type 0
 TablesFit c ts = tables_fit ts (context_of c).tables ≡ true
-
--- the final query answers what the checked one asks, over few parameters
-pub record IsAnswerable (p : Prepared) : Type 0 where
-  pub small : IsSmall p.checked
-  pub same : MeansSame p.checked p.tables p.final_query
 
 -- the file is there, with these bytes, within the limit
 abbrev pub Stands : ℕ → List ℕ → Option (List ℕ) → Type 0
@@ -226,8 +219,8 @@ PreparesTables told told_after rose query script c (Ok ts) = IfSome told (λ (fi
 PreparesTables told told_after rose query script c (Err s) = RestRefused told told_after rose query script c s
 
 -- what preparing all behind a checked query gives
-abbrev pub PreparesRest : Option Files → Option Files → (List ℕ → Type 0) → List ℕ → List ℕ → Checked → Result Rest Status → Type 0
-PreparesRest told told_after rose query script c (Ok rest) = IfSome told (λ (files : Files). with_query None files script c ≡ Ok (record { checked = c; tables = rest.tables; final_query = rest.final_query }))
+abbrev pub PreparesRest : Option Files → Option Files → (List ℕ → Type 0) → List ℕ → List ℕ → Checked → Result (List Table) Status → Type 0
+PreparesRest told told_after rose query script c (Ok ts) = IfSome told (λ (files : Files). with_query None files script c ≡ Ok (record { checked = c; tables = ts }))
 PreparesRest told told_after rose query script c (Err s) = RestRefused told told_after rose query script c s
 
 -- a status that ends the preparation

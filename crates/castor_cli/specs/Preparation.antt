@@ -94,9 +94,9 @@ IsQueryIn fails files query r = Says (readable fails place.Query text_limit (fil
 abbrev pub tables_behind : Broken → Files → List ℕ → Checked → Result (List Table) Status
 tables_behind broken files script c = after (script_in (script_fails broken) files script) (λ done. tables_in (failing_table broken) files 0 c.tables)
 
--- a checked query with its tables and its final query
+-- a checked query with its tables, where its final query is built
 abbrev pub ready_with : Checked → List Table → Result Prepared Status
-ready_with c ts = after (built c ts) (λ final. Ok (record { checked = c; tables = ts; final_query = final }))
+ready_with c ts = after (built c ts) (λ final. Ok (record { checked = c; tables = ts }))
 
 -- the script, then the tables, and then the final query, of a checked query
 abbrev pub with_query : Broken → Files → List ℕ → Checked → Result Prepared Status

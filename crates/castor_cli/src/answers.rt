@@ -1,11 +1,9 @@
 //! The replies to the lines of an input.
 
-ghost use Rattle.std.specs.Prelude.{◌≡◌, ◌≤◌, Some, IfOk, IfErr, OnOk, OnErr, length, true};
+ghost use Rattle.std.specs.Prelude.{◌≡◌, ◌≤◌, Some, IfOk, IfErr, OnOk, OnErr, length};
 ghost use Rattle.std.specs.Io.KnownBytes.{Appends};
 ghost use Rattle.castor_base.specs.Causes.{Rose};
-ghost use Rattle.castor_val.specs.Values.{row_fits};
-ghost use Rattle.castor_schema.specs.WellTyped.{context_of};
-ghost use Rattle.castor_cli.specs.Causes.{IsAnswerable};
+ghost use Rattle.castor_cli.specs.Causes.{IsSmall};
 ghost use Rattle.castor_cli.specs.Answers.{answers, line_text, reply_to};
 ghost use Rattle.castor_base.specs.Moves.{AppendsPrefix};
 ghost use Rattle.castor_cli.specs.Printing.{RoseIfFailed};
@@ -22,8 +20,6 @@ use std::alloc::Global;
 
 // The reply to the values of a line.
 fn reply_to(alloc: Global, prepared: &Prepared, params: Row) -> Result<Vec<u8>, Memory>
-    requires answerable { IsAnswerable prepared.now }
-    requires fits { row_fits params (context_of prepared.now.checked).params ≡ true }
     ensures { IfOk result (λ reply. reply.items ≡ reply_to prepared.now (Some params)) }
 {
     let env = OwnedEnv {
@@ -32,7 +28,7 @@ fn reply_to(alloc: Global, prepared: &Prepared, params: Row) -> Result<Vec<u8>, 
     };
     let out = eval(
         alloc,
-        &prepared.final_query,
+        &prepared.checked.query,
         prepared.tables.as_slice(),
         &env,
     )?;
@@ -41,7 +37,7 @@ fn reply_to(alloc: Global, prepared: &Prepared, params: Row) -> Result<Vec<u8>, 
 
 // The reply to a line.
 fn line_reply(alloc: Global, prepared: &Prepared, line: &[u8]) -> Result<Vec<u8>, Memory>
-    requires { IsAnswerable prepared.now }
+    requires { IsSmall prepared.now.checked }
     ensures { IfOk result (λ reply. reply.items ≡ line_text prepared.now line.now) }
 {
     match read_line(alloc, prepared.checked.params.as_slice(), line)? {
@@ -70,7 +66,7 @@ pub fn print_answers<O: Sink>(
     input: &[u8],
     out: &mut O,
 ) -> Result<(), PrintError>
-    requires { IsAnswerable prepared.now }
+    requires { IsSmall prepared.now.checked }
     ensures ok { OnOk result (Appends (O.given out.old) (O.given out.new) (answers prepared.now input.now)) }
     ensures err { OnErr result (AppendsPrefix (O.given out.old) (O.given out.new) (answers prepared.now input.now)) }
     ensures cause { IfErr result (RoseIfFailed (Rose (O.faults out.old) (O.faults out.new))) }

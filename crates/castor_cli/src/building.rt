@@ -1,13 +1,13 @@
 //! The final query of a checked one, and why none is built.
 
-ghost use Rattle.std.specs.Prelude.{◌≡◌, IfOk, List, map};
+ghost use Rattle.std.specs.Prelude.{◌≡◌, IfOk, map};
 ghost use Rattle.std.specs.List.{starts_with};
 ghost use Rattle.castor_val.specs.declared.table.Table.{Table};
 ghost use Rattle.castor_schema.specs.WellTyped.{IsWellTyped, column_types_of, context_of};
 ghost use Rattle.castor_script.specs.Finish.{finish_of};
 ghost use Rattle.castor_stage.specs.HeldData.{held_data};
 ghost use Rattle.castor_stage.specs.Stages.{stage as stage_of};
-ghost use Rattle.castor_cli.specs.Building.{MeansSame, built, checked_last, if_finished, if_held, if_ordered, if_staged, is_unfinished, keeps_order, same_key};
+ghost use Rattle.castor_cli.specs.Building.{built, checked_last, if_finished, if_held, if_ordered, if_staged, is_unfinished, keeps_order, same_key};
 ghost use Rattle.castor_cli.specs.Causes.{TablesFit};
 ghost use Rattle.castor_cli.specs.Gives.{GivesStatus};
 
@@ -68,8 +68,7 @@ fn unfinished(why: StepError) -> Status
 // The query that the script `finish;` makes of a checked one.
 fn finished(alloc: Global, checked: &Checked) -> Result<Rel, Status>
     requires typed { IsWellTyped checked.now }
-    ensures exact { GivesStatus (λ q. q) (if_finished (finish_of (context_of checked.now).tables checked.now.query)) result }
-    ensures same { IfOk result (λ q. (tables : List Table) → TablesFit checked.now tables → MeansSame checked.now tables q) }
+    ensures { GivesStatus (λ q. q) (if_finished (finish_of (context_of checked.now).tables checked.now.query)) result }
 {
     let Ok(context) = context_of(alloc, checked) else {
         return Err(Status::Memory);
@@ -157,8 +156,7 @@ fn check_last(alloc: Global, query: &Rel, last: &Rel, tables: &[Table]) -> Resul
 pub fn build(alloc: Global, checked: &Checked, tables: &[Table]) -> Result<Rel, Status>
     requires typed { IsWellTyped checked.now }
     requires fit { TablesFit checked.now tables.now }
-    ensures exact { GivesStatus (λ q. q) (built checked.now tables.now) result }
-    ensures same { IfOk result (MeansSame checked.now tables.now) }
+    ensures { GivesStatus (λ q. q) (built checked.now tables.now) result }
 {
     match finished(alloc, checked) {
         Ok(last) => match check_last(alloc, &checked.query, &last, tables) {

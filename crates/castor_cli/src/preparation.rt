@@ -1,22 +1,21 @@
-//! What is made ready before the input is read: the checked query, its tables and the final query.
+//! What is made ready before the input is read: the checked query and its tables, of which a final query
+//! can be built.
 
 ghost use Rattle.std.specs.Prelude.{◌≡◌, ◌≤◌, ◌+◌, ◌∷◌, List, ℕ, [], IfErr, IfOk, IfSome, OnOk, length, string_bytes, true};
 ghost use Rattle.castor_base.specs.Causes.{Rose};
 ghost use Rattle.castor_base.specs.Files.{SameFiles};
 ghost use Rattle.castor_load.specs.Rows.{table_of};
 ghost use Rattle.castor_val.specs.Values.{table_fits};
-ghost use Rattle.castor_schema.specs.WellTyped.{column_types_of};
-ghost use Rattle.castor_cli.specs.Building.{MeansSame};
-ghost use Rattle.castor_cli.specs.Causes.{AreNarrow, FitBehind, IsAnswerable, IsSmall, IsSound, LoadsAll, LoadsOne, NamesTable, Prepares, PreparesRest, PreparesTables, ReadsFile, ReadsQuery, ReadsScript, TablesFit, items_of, nth_name, read_status};
+ghost use Rattle.castor_schema.specs.WellTyped.{IsWellTyped, column_types_of};
+ghost use Rattle.castor_cli.specs.Causes.{AreNarrow, FitBehind, IsSmall, IsSound, LoadsAll, LoadsOne, NamesTable, Prepares, PreparesRest, PreparesTables, ReadsFile, ReadsQuery, ReadsScript, TablesFit, items_of, nth_name, read_status};
 ghost use Rattle.castor_cli.specs.Gives.{GivesStatus};
-ghost use Rattle.castor_cli.specs.Preparation.{if_loaded};
+ghost use Rattle.castor_cli.specs.Preparation.{if_loaded, ready_with};
 ghost use Rattle.castor_cli.specs.Status.{table_file};
 
 use crate::building::build;
 use crate::query::read_query;
 use crate::script::is_finish_script;
 use crate::status::{Place, ReadFault, Status};
-use castor_alg::Rel;
 use castor_base::{Shelf, ShelfError};
 use castor_load::{LoadError, load};
 use castor_schema::{Checked, Declared};
@@ -29,20 +28,11 @@ const TEXT_LIMIT: u64 = 1_048_576;
 
 const TABLE_LIMIT: u64 = 268_435_456;
 
-/// A checked query, its tables in the order of their declarations, and the final query, which is
-/// answered in its place.
+/// A checked query and its tables, in the order of their declarations.
 #[derive(Drop)]
 pub struct Prepared {
     pub checked: Checked,
     pub tables: Items<Table>,
-    pub final_query: Rel,
-}
-
-/// What stands behind a checked query: its tables and the final query.
-#[derive(Drop)]
-pub struct Rest {
-    pub tables: Items<Table>,
-    pub final_query: Rel,
 }
 
 /// Why a command ended, and the name of the table that the status speaks of, if it is one's.
@@ -263,27 +253,35 @@ fn prepare_tables<S: Shelf>(
     }
 }
 
-// Reads the script and then the tables of a checked query, and makes its final query.
+// Refuses a checked query over tables of which no final query is built.
+fn check_built(alloc: Global, checked: &Checked, tables: &[Table]) -> Result<(), Status>
+    requires typed { IsWellTyped checked.now }
+    requires fit { TablesFit checked.now tables.now }
+    ensures { GivesStatus (λ done. record { checked = checked.now; tables = tables.now }) (ready_with checked.now tables.now) result }
+{
+    match build(alloc, checked, tables) {
+        Ok(_) => Ok(()),
+        Err(status) => Err(status),
+    }
+}
+
+// Reads the script and then the tables of a checked query, and sees that its final query is built.
 fn prepare_rest<S: Shelf>(
     alloc: Global,
     shelf: &mut S,
     query: &str,
     script: &str,
     checked: &Checked,
-) -> Result<Rest, Status>
+) -> Result<Items<Table>, Status>
     requires { IsSound checked.now }
     ensures same { SameFiles (S.files shelf.old) (S.files shelf.new) }
     ensures reads { (n : List ℕ) → S.read_faults shelf.old n ≤ S.read_faults shelf.new n }
     ensures rest { PreparesRest (S.files shelf.old) (S.files shelf.new) (λ name. Rose (S.read_faults shelf.old name) (S.read_faults shelf.new name))
         query.now script.now checked.now result }
-    ensures means { IfOk result (λ rest. MeansSame checked.now rest.tables rest.final_query) }
 {
     match prepare_tables(alloc, shelf, query, script, checked) {
-        Ok(tables) => match build(alloc, checked, tables.as_slice()) {
-            Ok(final_query) => Ok(Rest {
-                tables,
-                final_query,
-            }),
+        Ok(tables) => match check_built(alloc, checked, tables.as_slice()) {
+            Ok(()) => Ok(tables),
             Err(status) => Err(status),
         },
         Err(status) => Err(status),
@@ -306,26 +304,11 @@ fn into_tables(checked: Checked) -> Items<Declared>
     tables
 }
 
-// A checked query and what stands behind it.
-fn with_rest(checked: Checked, rest: Rest) -> Prepared
-    ensures { result ≡ record { checked = checked; tables = rest.tables; final_query = rest.final_query } }
-{
-    let Rest {
-        tables,
-        final_query,
-    } = rest;
-    Prepared {
-        checked,
-        tables,
-        final_query,
-    }
-}
-
-/// Reads and checks the query, then the script, then reads and loads the tables, and then makes the final
-/// query, in this order.
+/// Reads and checks the query, then the script, then reads and loads the tables, and then sees that the
+/// final query is built, in this order.
 ///
 /// The stop has the first refusal in that order, or `Memory`. No file changes. Linear in the bytes
-/// that are read, and what making the final query costs.
+/// that are read, and what building the final query costs, whose stored values are held meanwhile.
 pub fn prepare<S: Shelf>(
     alloc: Global,
     shelf: &mut S,
@@ -335,11 +318,11 @@ pub fn prepare<S: Shelf>(
     ensures same { SameFiles (S.files shelf.old) (S.files shelf.new) }
     ensures prepares { Prepares (S.files shelf.old) (S.files shelf.new) (λ name. Rose (S.read_faults shelf.old name) (S.read_faults shelf.new name))
         query.now script.now result }
-    ensures answerable { IfOk result IsAnswerable }
+    ensures small { IfOk result (λ p. IsSmall p.checked) }
 {
     match read_checked(alloc, shelf, query) {
         Ok(checked) => match prepare_rest(alloc, shelf, query, script, &checked) {
-            Ok(rest) => Ok(with_rest(checked, rest)),
+            Ok(tables) => Ok(Prepared { checked, tables }),
             Err(status) => Err(Stop::about(alloc, into_tables(checked), status)),
         },
         Err(status) => Err(Stop::new(alloc, status)),

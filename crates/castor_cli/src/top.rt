@@ -4,7 +4,7 @@ ghost use Rattle.std.specs.Prelude.{◌≡◌, ◌<◌, ◌↔◌, None, Ok, Lis
 ghost use Rattle.castor_base.specs.Causes.{Rose};
 ghost use Rattle.castor_base.specs.Files.{SameFiles};
 ghost use Rattle.castor_cli.specs.Answers.{answers};
-ghost use Rattle.castor_cli.specs.Causes.{IsAnswerable};
+ghost use Rattle.castor_cli.specs.Causes.{IsSmall};
 ghost use Rattle.castor_cli.specs.Commands.{command_of};
 ghost use Rattle.castor_cli.specs.Complete.{Completes};
 ghost use Rattle.castor_cli.specs.Outcome.{Ended, EndsReady, IsNotUsage, IsStarted, Printed, PrintedText, Taken, word};
@@ -41,7 +41,7 @@ fn answer_input<I: Source, O: Sink>(
     input: &mut I,
     out: &mut O,
 ) -> Status
-    requires { IsAnswerable prepared.now }
+    requires { IsSmall prepared.now.checked }
     ensures printed { PrintedText (option_map (answers prepared.now) (I.left input.old)) (O.given out.old) (O.given out.new) result }
     ensures taken { Taken (I.left input.old) (I.left input.new) result }
     ensures ends { EndsReady (Rose (I.faults input.old) (I.faults input.new)) (Rose (O.faults out.old) (O.faults out.new)) result }
@@ -65,7 +65,7 @@ fn answer_prepared<I: Source, O: Sink>(
     input: &mut I,
     out: &mut O,
 ) -> Status
-    requires { IsAnswerable prepared }
+    requires { IsSmall prepared.checked }
     ensures printed { PrintedText (option_map (answers prepared) (I.left input.old)) (O.given out.old) (O.given out.new) result }
     ensures taken { Taken (I.left input.old) (I.left input.new) result }
     ensures ends { EndsReady (Rose (I.faults input.old) (I.faults input.new)) (Rose (O.faults out.old) (O.faults out.new)) result }
@@ -134,8 +134,9 @@ fn run<S: Shelf, I: Source, O: Sink>(
 /// what faults; the input; the output. `Memory` may come at any point. Each status but
 /// `Ok` writes one line to `err`, and a failure of `err` changes nothing else. No file changes.
 ///
-/// Linear in the files and the input, and for each line what evaluating the query costs. Memory is
-/// the input, the tables and one reply.
+/// Linear in the files and the input, with what computing the stored values costs, and for each line
+/// what evaluating the query costs. Memory is the input, the tables and one reply, and before the input
+/// is read the stored values, which are looked through for faults.
 pub fn castor<S: Shelf, I: Source, O: Sink, E: Sink, L: Ledger>(
     alloc: Global,
     words: &[String],

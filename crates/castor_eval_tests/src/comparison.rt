@@ -1,13 +1,10 @@
 //! The evaluator against the plain one, over generated relations, tables and environments.
 
-use crate::given::{Binding, Given};
-use crate::operators::Plain;
-use crate::plain::plain;
-use crate::random::Random;
 use crate::relations::{numbered, relation};
 use crate::tables::{environment, tables};
 use castor_alg::{Out, OwnedEnv, Rel};
 use castor_eval::eval;
+use castor_plain::{Binding, Given, Plain, Random, plain};
 use castor_val::{Cell, Memory, Row, Table};
 use std::alloc::Global;
 use std::test::Fail;

@@ -1,8 +1,8 @@
 //! Generated expressions. Most are well typed over two ints; on other rows they may not be.
 
-use crate::random::Random;
 use crate::tables::int;
 use castor_alg::{Expr, Op};
+use castor_plain::Random;
 use castor_val::{Memory, Value};
 use sqlite_items::{Boxed, Items};
 use std::alloc::Global;

@@ -1,8 +1,8 @@
 //! Generated relations: a table or a value, under a few operators, the rest of whose operands are small.
 
 use crate::expressions::{condition, leaf, number, numbers};
-use crate::random::Random;
 use castor_alg::{Agg, Bound, Expr, Key, Rel, both, boxed};
+use castor_plain::Random;
 use castor_val::Memory;
 use sqlite_items::{Boxed, Items};
 use std::alloc::Global;

@@ -1,7 +1,7 @@
 //! Generated tables, whose few values often repeat.
 
-use crate::random::Random;
 use castor_alg::OwnedEnv;
+use castor_plain::Random;
 use castor_val::{Cell, Memory, Row, Table, Ty};
 use std::alloc::Global;
 

@@ -10,6 +10,10 @@ mod failures;
 #[cfg(test)]
 mod limits;
 #[cfg(test)]
+mod meaning;
+#[cfg(test)]
+mod queries;
+#[cfg(test)]
 mod refusals;
 #[cfg(test)]
 mod world;

@@ -1,57 +1,88 @@
 #!/usr/bin/env bash
-# Runs the program over the stored question with each of its allocations failing in turn, until a run meets
-# none, and says how many points it tried. With want of memory the status is 11, one line tells of it, and what
-# went out is a prefix of the reply. While the program still takes its words, before the command runs, want of
-# memory means no words, which is status 2.
+# Runs the proved program over the stored question with each of its allocations failing in turn, until a run
+# meets none, and says how many points it tried. With want of memory the status is 11, one line tells of it, and
+# what went out is a prefix of the reply. While the program still takes its words, before the command runs, want
+# of memory means no words, which is status 2.
 #
-# Each point is a build of its own, so this takes a while: about a minute of a processor a point.
-# Usage: scripts/each_allocation_fails.sh [FIRST]
+# The allocations fail outside the program: a library before libc's answers the one of a given number, counted
+# from 1, with no memory. It is compiled here by cc. The program is that of crates/castor/out, or the one that
+# $CASTOR names.
 set -eu
 
-first=${1:-1}
 cd "$(dirname "$0")/../crates/castor"
+castor=$(realpath "${CASTOR:-out/castor}")
+stored=$PWD
 folder=$(mktemp -d)
 trap 'rm -rf "$folder"' EXIT
-export folder
+cp data/* "$folder"
 
-# The status of the run in which this allocation fails, into a file of its number.
-try_point() {
-    local status=0
-    rt try --fail-alloc "$1" --data q1.query=data/q1.query --data q1.script=data/q1.script \
-        --data orders.csv=data/orders.csv -- $(cat args) <stdin >"$folder/$1.out" 2>"$folder/$1.err" || status=$?
-    echo "$status" >"$folder/$1.status"
-}
-export -f try_point
+cat >"$folder/failing.c" <<'END'
+#include <stdio.h>
+#include <stdlib.h>
 
-is_prefix() {
-    cmp -s "$1" <(head -c "$(wc -c <"$1")" stdout)
+void *__libc_malloc(size_t size);
+void *__libc_realloc(void *place, size_t size);
+
+static unsigned long calls;
+
+static int fails(void)
+{
+    const char *number = getenv("FAILING_ALLOCATION");
+    return ++calls == (number ? strtoul(number, 0, 10) : 0);
 }
+
+void *malloc(size_t size)
+{
+    return fails() ? 0 : __libc_malloc(size);
+}
+
+void *realloc(void *place, size_t size)
+{
+    return fails() ? 0 : __libc_realloc(place, size);
+}
+
+/* What the run met, for the script to know where to end. */
+__attribute__((destructor)) static void tell(void)
+{
+    unsigned long met = calls;
+    FILE *file = fopen("met", "w");
+    if (file) {
+        fprintf(file, "%lu\n", met);
+        fclose(file);
+    }
+}
+END
+cc -O1 -shared -fPIC -o "$folder/failing.so" "$folder/failing.c"
+cd "$folder"
 
 complain() {
     echo "allocation $1: $2" >&2
-    cat "$folder/$1.out" "$folder/$1.err" >&2
+    cat out err >&2
     exit 1
 }
 
+is_prefix() {
+    cmp -s out <(head -c "$(wc -c <out)" "$stored/stdout")
+}
+
 in_words=0
-point=$first
+point=1
 while :; do
-    last=$((point + $(nproc) - 1))
-    seq "$point" "$last" | xargs -P "$(nproc)" -I {} bash -c 'try_point {}'
-    while [ "$point" -le "$last" ]; do
-        case $(cat "$folder/$point.status") in
-            0)
-                cmp -s "$folder/$point.out" stdout || complain "$point" "another reply"
-                echo "$((point - first)) points tried, from $first: in $in_words the program got no words, in all others it ended with status 11"
-                exit 0
-                ;;
-            2) in_words=$((in_words + 1)) ;;
-            11)
-                grep -qx 'castor: memory' "$folder/$point.err" || complain "$point" "no line tells of it"
-                is_prefix "$folder/$point.out" || complain "$point" "what went out is no prefix of the reply"
-                ;;
-            *) complain "$point" "status $(cat "$folder/$point.status")" ;;
-        esac
-        point=$((point + 1))
-    done
+    status=0
+    FAILING_ALLOCATION=$point LD_PRELOAD=$folder/failing.so "$castor" $(cat "$stored/args") \
+        <"$stored/stdin" >out 2>err || status=$?
+    if [ "$(cat met)" -lt "$point" ]; then
+        [ "$status" -eq 0 ] && cmp -s out "$stored/stdout" || complain "$point" "no allocation failed, and the reply is another"
+        break
+    fi
+    case $status in
+        2) in_words=$((in_words + 1)) ;;
+        11)
+            grep -qx 'castor: memory' err || complain "$point" "no line tells of it"
+            is_prefix || complain "$point" "what went out is no prefix of the reply"
+            ;;
+        *) complain "$point" "status $status" ;;
+    esac
+    point=$((point + 1))
 done
+echo "$((point - 1)) points tried: in $in_words the program got no words, in all others it ended with status 11"

@@ -4,12 +4,12 @@
 
 pub mod aggregates;
 pub mod given;
+pub mod meaning;
 pub mod operators;
-pub mod plain;
 pub mod random;
 pub mod values;
 
 pub use given::{Binding, Given, Line};
+pub use meaning::plain;
 pub use operators::Plain;
-pub use plain::plain;
 pub use random::Random;

@@ -1,5 +1,5 @@
 -- The final query of a checked one over its tables, or why none is built.
-use Rattle.std.specs.Prelude.{◌≡◌, ◌==◌, ◌&&◌, List, [], Bool, true, Result, Ok, Err, if◌then◌else◌, not}
+use Rattle.std.specs.Prelude.{◌==◌, ◌&&◌, List, [], Bool, Result, Ok, Err, if◌then◌else◌, not}
 use Rattle.std.specs.List.{starts_with}
 use Rattle.castor_val.specs.declared.fault.Faults.{Faults}
 use Rattle.castor_val.specs.declared.table.Table.{Table}

@@ -1,6 +1,6 @@
 //! The replies to the lines of an input.
 
-ghost use Rattle.std.specs.Prelude.{◌≡◌, ◌≤◌, Some, IfOk, IfErr, OnOk, OnErr, length};
+ghost use Rattle.std.specs.Prelude.{◌≡◌, ◌≤◌, Some, IfOk, IfErr, OnOk, OnErr};
 ghost use Rattle.std.specs.Io.KnownBytes.{Appends};
 ghost use Rattle.castor_base.specs.Causes.{Rose};
 ghost use Rattle.castor_cli.specs.Causes.{IsSmall};

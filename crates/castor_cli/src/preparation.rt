@@ -1,7 +1,7 @@
 //! What is made ready before the input is read: the checked query and its tables, of which a final query
 //! can be built.
 
-ghost use Rattle.std.specs.Prelude.{◌≡◌, ◌≤◌, ◌+◌, ◌∷◌, List, ℕ, [], IfErr, IfOk, IfSome, OnOk, length, string_bytes, true};
+ghost use Rattle.std.specs.Prelude.{◌≡◌, ◌≤◌, ◌+◌, List, ℕ, [], IfOk, OnOk, length, string_bytes, true};
 ghost use Rattle.castor_base.specs.Causes.{Rose};
 ghost use Rattle.castor_base.specs.Files.{SameFiles};
 ghost use Rattle.castor_load.specs.Rows.{table_of};

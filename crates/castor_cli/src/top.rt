@@ -1,6 +1,6 @@
 //! The top call: a command over a shelf of files, an input and two outputs.
 
-ghost use Rattle.std.specs.Prelude.{◌≡◌, ◌<◌, ◌↔◌, None, Ok, List, ℕ, length, map, option_map, slice_index_or, string_bytes, []};
+ghost use Rattle.std.specs.Prelude.{◌≡◌, ◌<◌, ◌↔◌, None, Ok, List, ℕ, map, option_map, slice_index_or, string_bytes, []};
 ghost use Rattle.castor_base.specs.Causes.{Rose};
 ghost use Rattle.castor_base.specs.Files.{SameFiles};
 ghost use Rattle.castor_cli.specs.Answers.{answers};

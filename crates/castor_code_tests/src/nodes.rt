@@ -86,6 +86,13 @@ fn each_code_has_its_bytes(rt: HostRuntime) -> Result<(), Fail> {
             "order [ #1 falling #2 rising ] over bool",
         ),
         ("0e 02", "dedup over bool"),
+        (
+            "07 0200000000000000 0200000000000000 1900000000000000 1900000000000000 01 03 0300 0300
+                06 0100000000000000 0200000000000000 0500000000000000 0a00000000000000
+                04 0300 01 0100000000000000 0300000000000000 03 0300 0300
+                01 0500000000000000 1e00000000000000 22 00000000",
+            "hash 2..2 in 25..25 by [ text 3..3 ][ $0 ] over list 1..2 in 5..10 over cross [ int 1..3 text 3..3 int 5..30 ]",
+        ),
     ];
     for case in cases.as_slice() {
         let text = taken_for(rt.alloc(), case.0)?;

@@ -107,7 +107,7 @@ fn a_key_has_1_to_4_columns_of_single_values(rt: HostRuntime) -> Result<(), Fail
         (
             "07",
             "04 02 02 02 02 02 24 00 24 01 24 00 24 01",
-            "hash 1..2 in 3..4 by [ bool bool bool bool ][ false true false true ] over bool",
+            "hash 1..2 in 3..4 by [ bool bool bool bool ] [ false true false true ] over bool",
         ),
         ("07", "00 02", "no code"),
         (

@@ -48,7 +48,7 @@ fn each_code_has_its_bytes(rt: HostRuntime) -> Result<(), Fail> {
         (
             "07 0100000000000000 0200000000000000 0300000000000000 0400000000000000
                 02 02 03 0000 0900 0e 02 22 00000000 24 01",
-            "hash 1..2 in 3..4 by [ bool text 0..9 ][ $0 true ] over dedup over bool",
+            "hash 1..2 in 3..4 by [ bool text 0..9 ] [ $0 true ] over dedup over bool",
         ),
         (
             "08 0100000000000000 0200000000000000 0300000000000000 0400000000000000
@@ -77,10 +77,10 @@ fn each_code_has_its_bytes(rt: HostRuntime) -> Result<(), Fail> {
         (
             "0c 0200 03000000 04030201
                 0400 00 01 01000000 02 02000000 03 08070605 02",
-            "group [ #3 #16909060 ][ count sum #1 min #2 max #84281096 ] over bool",
+            "group [ #3 #16909060 ] [ count sum #1 min #2 max #84281096 ] over bool",
         ),
-        ("0c 0100 00000000 0000 02", "group [ #0 ][ ] over bool"),
-        ("0c 0000 0100 00 02", "group [ ][ count ] over bool"),
+        ("0c 0100 00000000 0000 02", "group [ #0 ] [ ] over bool"),
+        ("0c 0000 0100 00 02", "group [ ] [ count ] over bool"),
         (
             "0d 0200 01000000 01 02000000 00 02",
             "order [ #1 falling #2 rising ] over bool",
@@ -91,7 +91,7 @@ fn each_code_has_its_bytes(rt: HostRuntime) -> Result<(), Fail> {
                 06 0100000000000000 0200000000000000 0500000000000000 0a00000000000000
                 04 0300 01 0100000000000000 0300000000000000 03 0300 0300
                 01 0500000000000000 1e00000000000000 22 00000000",
-            "hash 2..2 in 25..25 by [ text 3..3 ][ $0 ] over list 1..2 in 5..10 over cross [ int 1..3 text 3..3 int 5..30 ]",
+            "hash 2..2 in 25..25 by [ text 3..3 ] [ $0 ] over list 1..2 in 5..10 over cross [ int 1..3 text 3..3 int 5..30 ]",
         ),
     ];
     for case in cases.as_slice() {

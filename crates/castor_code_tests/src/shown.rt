@@ -60,7 +60,7 @@ fn push_expr(text: &mut String, e: &Expr) -> Result<(), AllocError> {
 }
 
 fn push_exprs(text: &mut String, es: &[Expr]) -> Result<(), AllocError> {
-    text.push_str("[")?;
+    text.push_str(" [")?;
     for e in es {
         text.push_str(" ")?;
         push_expr(text, e)?;
@@ -84,7 +84,7 @@ fn push_bound(text: &mut String, side: &str, bound: &Bound) -> Result<(), AllocE
 }
 
 fn push_columns(text: &mut String, columns: &[u32]) -> Result<(), AllocError> {
-    text.push_str("[")?;
+    text.push_str(" [")?;
     for column in columns {
         write!(text, " #{column}")?;
     }
@@ -101,7 +101,7 @@ fn push_agg(text: &mut String, agg: Agg) -> Result<(), AllocError> {
 }
 
 fn push_aggs(text: &mut String, aggs: &[Agg]) -> Result<(), AllocError> {
-    text.push_str("[")?;
+    text.push_str(" [")?;
     for agg in aggs {
         push_agg(text, *agg)?;
     }
@@ -109,7 +109,7 @@ fn push_aggs(text: &mut String, aggs: &[Agg]) -> Result<(), AllocError> {
 }
 
 fn push_keys(text: &mut String, keys: &[Key]) -> Result<(), AllocError> {
-    text.push_str("[")?;
+    text.push_str(" [")?;
     for key in keys {
         let direction = if key.desc { "falling" } else { "rising" };
         write!(text, " #{} {direction}", key.col)?;
@@ -117,28 +117,24 @@ fn push_keys(text: &mut String, keys: &[Key]) -> Result<(), AllocError> {
     text.push_str(" ]")
 }
 
-fn push_ranges(text: &mut String, count: Range, body: Range) -> Result<(), AllocError> {
+fn push_ranges(text: &mut String, name: &str, count: Range, body: Range) -> Result<(), AllocError> {
+    text.push_str(name)?;
     write!(
         text,
-        "{}..{} in {}..{}",
+        " {}..{} in {}..{}",
         count.lo, count.hi, body.lo, body.hi
     )
 }
 
 #[cycle(push)]
-fn push_codes(text: &mut String, codes: &[Code]) -> Result<(), AllocError> {
-    text.push_str("[")?;
+fn push_codes(text: &mut String, name: &str, codes: &[Code]) -> Result<(), AllocError> {
+    text.push_str(name)?;
+    text.push_str(" [")?;
     for code in codes {
         text.push_str(" ")?;
         push_code(text, code)?;
     }
     text.push_str(" ]")
-}
-
-#[cycle(push)]
-fn push_parts(text: &mut String, name: &str, kids: &[Code]) -> Result<(), AllocError> {
-    text.push_str(name)?;
-    push_codes(text, kids)
 }
 
 #[cycle(push)]
@@ -149,46 +145,85 @@ fn push_over(text: &mut String, kid: &Code) -> Result<(), AllocError> {
 
 #[cycle(push)]
 fn push_list(text: &mut String, count: Range, body: Range, kid: &Code) -> Result<(), AllocError> {
-    text.push_str("list ")?;
-    push_ranges(text, count, body)?;
+    push_ranges(text, "list", count, body)?;
     push_over(text, kid)
 }
 
 #[cycle(push)]
-fn push_hash(text: &mut String, key: &[Code], kid: &Code, by: &[Expr]) -> Result<(), AllocError> {
-    push_parts(text, " by ", key)?;
+fn push_hash_key(
+    text: &mut String,
+    count: Range,
+    body: Range,
+    key: &[Code],
+) -> Result<(), AllocError> {
+    push_ranges(text, "hash", count, body)?;
+    push_codes(text, " by", key)
+}
+
+#[cycle(push)]
+fn push_hash_kid(text: &mut String, by: &[Expr], kid: &Code) -> Result<(), AllocError> {
     push_exprs(text, by)?;
     push_over(text, kid)
 }
 
 #[cycle(push)]
-fn push_ord(
+fn push_ord_key(
     text: &mut String,
+    count: Range,
+    body: Range,
     key: &Code,
-    kid: &Code,
-    lo: &Bound,
-    hi: &Bound,
 ) -> Result<(), AllocError> {
+    push_ranges(text, "ord", count, body)?;
     text.push_str(" by ")?;
-    push_code(text, key)?;
+    push_code(text, key)
+}
+
+#[cycle(push)]
+fn push_ord_kid(text: &mut String, lo: &Bound, hi: &Bound, kid: &Code) -> Result<(), AllocError> {
     push_bound(text, " from", lo)?;
     push_bound(text, " to", hi)?;
     push_over(text, kid)
 }
 
 #[cycle(push)]
-fn push_dep(text: &mut String, scope: u32, first: &Code, second: &Code) -> Result<(), AllocError> {
+fn push_select(text: &mut String, es: &[Expr], kid: &Code) -> Result<(), AllocError> {
+    text.push_str("select")?;
+    push_exprs(text, es)?;
+    push_over(text, kid)
+}
+
+#[cycle(push)]
+fn push_filter(text: &mut String, e: &Expr, kid: &Code) -> Result<(), AllocError> {
+    text.push_str("filter ")?;
+    push_expr(text, e)?;
+    push_over(text, kid)
+}
+
+#[cycle(push)]
+fn push_first(text: &mut String, scope: u32, first: &Code) -> Result<(), AllocError> {
     text.push_str("dep ")?;
     push_code(text, first)?;
-    write!(text, " as s{scope}")?;
-    push_over(text, second)
+    write!(text, " as s{scope}")
 }
 
 #[cycle(push)]
 fn push_group(text: &mut String, keys: &[u32], aggs: &[Agg], kid: &Code) -> Result<(), AllocError> {
-    text.push_str("group ")?;
+    text.push_str("group")?;
     push_columns(text, keys)?;
     push_aggs(text, aggs)?;
+    push_over(text, kid)
+}
+
+#[cycle(push)]
+fn push_order(text: &mut String, keys: &[Key], kid: &Code) -> Result<(), AllocError> {
+    text.push_str("order")?;
+    push_keys(text, keys)?;
+    push_over(text, kid)
+}
+
+#[cycle(push)]
+fn push_dedup(text: &mut String, kid: &Code) -> Result<(), AllocError> {
+    text.push_str("dedup")?;
     push_over(text, kid)
 }
 
@@ -199,8 +234,8 @@ pub fn push_code(text: &mut String, code: &Code) -> Result<(), AllocError> {
         Code::Int { lo, hi } => write!(text, "int {lo}..{hi}"),
         Code::Bool => text.push_str("bool"),
         Code::Text { min, max } => write!(text, "text {min}..{max}"),
-        Code::Cross(kids) => push_parts(text, "cross ", kids.as_slice()),
-        Code::Concat(kids) => push_parts(text, "concat ", kids.as_slice()),
+        Code::Cross(kids) => push_codes(text, "cross", kids.as_slice()),
+        Code::Concat(kids) => push_codes(text, "concat", kids.as_slice()),
         Code::List { count, body, kid } => push_list(text, *count, *body, kid.get()),
         Code::Hash {
             count,
@@ -209,9 +244,8 @@ pub fn push_code(text: &mut String, code: &Code) -> Result<(), AllocError> {
             kid,
             by,
         } => {
-            text.push_str("hash ")?;
-            push_ranges(text, *count, *body)?;
-            push_hash(text, key.as_slice(), kid.get(), by.as_slice())
+            push_hash_key(text, *count, *body, key.as_slice())?;
+            push_hash_kid(text, by.as_slice(), kid.get())
         }
         Code::Ord {
             count,
@@ -221,35 +255,19 @@ pub fn push_code(text: &mut String, code: &Code) -> Result<(), AllocError> {
             lo,
             hi,
         } => {
-            text.push_str("ord ")?;
-            push_ranges(text, *count, *body)?;
-            push_ord(text, key.get(), kid.get(), lo, hi)
+            push_ord_key(text, *count, *body, key.get())?;
+            push_ord_kid(text, lo, hi, kid.get())
         }
-        Code::Select(es, kid) => {
-            text.push_str("select ")?;
-            push_exprs(text, es.as_slice())?;
-            push_over(text, kid.get())
+        Code::Select(es, kid) => push_select(text, es.as_slice(), kid.get()),
+        Code::Filter(e, kid) => push_filter(text, e, kid.get()),
+        Code::Dep(scope, first, second) => {
+            push_first(text, *scope, first.get())?;
+            push_over(text, second.get())
         }
-        Code::Filter(e, kid) => {
-            text.push_str("filter ")?;
-            push_expr(text, e)?;
-            push_over(text, kid.get())
+        Code::Group(keys, aggs, kid) => {
+            push_group(text, keys.as_slice(), aggs.as_slice(), kid.get())
         }
-        Code::Dep(scope, first, second) => push_dep(text, *scope, first.get(), second.get()),
-        Code::Group(keys, aggs, kid) => push_group(
-            text,
-            keys.as_slice(),
-            aggs.as_slice(),
-            kid.get(),
-        ),
-        Code::Order(keys, kid) => {
-            text.push_str("order ")?;
-            push_keys(text, keys.as_slice())?;
-            push_over(text, kid.get())
-        }
-        Code::Dedup(kid) => {
-            text.push_str("dedup")?;
-            push_over(text, kid.get())
-        }
+        Code::Order(keys, kid) => push_order(text, keys.as_slice(), kid.get()),
+        Code::Dedup(kid) => push_dedup(text, kid.get()),
     }
 }

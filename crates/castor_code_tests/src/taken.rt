@@ -17,17 +17,23 @@ fn has_bytes(alloc: Global, code: &Code, bytes: &[u8]) -> Result<bool, Memory>
     Ok(own.as_slice() == bytes)
 }
 
-/// The text of a code that was read from these bytes and gives them back.
-fn text_of(alloc: Global, code: Code, bytes: &[u8]) -> Result<String, Memory>
-    requires { is_well_formed code ≡ true }
+/// The text of a code that was read from these bytes, where it gives them back.
+fn shown(alloc: Global, code: &Code, bytes: &[u8]) -> Result<String, Memory>
+    requires { is_well_formed code.now ≡ true }
 {
     let mut text = String::new(alloc);
-    if has_bytes(alloc, &code, bytes)? {
-        push_code(&mut text, &code)?;
+    if has_bytes(alloc, code, bytes)? {
+        push_code(&mut text, code)?;
     } else {
         text.push_str("other bytes")?;
     }
     Ok(text)
+}
+
+fn text_of(alloc: Global, code: Code, bytes: &[u8]) -> Result<String, Memory>
+    requires { is_well_formed code ≡ true }
+{
+    shown(alloc, &code, bytes)
 }
 
 /// The text of the code that these bytes are, and `no code` where they are none.

@@ -161,7 +161,7 @@ fn push_hash_key(
 }
 
 #[cycle(push)]
-fn push_hash_kid(text: &mut String, by: &[Expr], kid: &Code) -> Result<(), AllocError> {
+fn push_hash_kid(text: &mut String, kid: &Code, by: &[Expr]) -> Result<(), AllocError> {
     push_exprs(text, by)?;
     push_over(text, kid)
 }
@@ -179,21 +179,21 @@ fn push_ord_key(
 }
 
 #[cycle(push)]
-fn push_ord_kid(text: &mut String, lo: &Bound, hi: &Bound, kid: &Code) -> Result<(), AllocError> {
+fn push_ord_kid(text: &mut String, kid: &Code, lo: &Bound, hi: &Bound) -> Result<(), AllocError> {
     push_bound(text, " from", lo)?;
     push_bound(text, " to", hi)?;
     push_over(text, kid)
 }
 
 #[cycle(push)]
-fn push_select(text: &mut String, es: &[Expr], kid: &Code) -> Result<(), AllocError> {
+fn push_select(text: &mut String, kid: &Code, es: &[Expr]) -> Result<(), AllocError> {
     text.push_str("select")?;
     push_exprs(text, es)?;
     push_over(text, kid)
 }
 
 #[cycle(push)]
-fn push_filter(text: &mut String, e: &Expr, kid: &Code) -> Result<(), AllocError> {
+fn push_filter(text: &mut String, kid: &Code, e: &Expr) -> Result<(), AllocError> {
     text.push_str("filter ")?;
     push_expr(text, e)?;
     push_over(text, kid)
@@ -207,7 +207,7 @@ fn push_first(text: &mut String, scope: u32, first: &Code) -> Result<(), AllocEr
 }
 
 #[cycle(push)]
-fn push_group(text: &mut String, keys: &[u32], aggs: &[Agg], kid: &Code) -> Result<(), AllocError> {
+fn push_group(text: &mut String, kid: &Code, keys: &[u32], aggs: &[Agg]) -> Result<(), AllocError> {
     text.push_str("group")?;
     push_columns(text, keys)?;
     push_aggs(text, aggs)?;
@@ -215,7 +215,7 @@ fn push_group(text: &mut String, keys: &[u32], aggs: &[Agg], kid: &Code) -> Resu
 }
 
 #[cycle(push)]
-fn push_order(text: &mut String, keys: &[Key], kid: &Code) -> Result<(), AllocError> {
+fn push_order(text: &mut String, kid: &Code, keys: &[Key]) -> Result<(), AllocError> {
     text.push_str("order")?;
     push_keys(text, keys)?;
     push_over(text, kid)
@@ -245,7 +245,7 @@ pub fn push_code(text: &mut String, code: &Code) -> Result<(), AllocError> {
             by,
         } => {
             push_hash_key(text, *count, *body, key.as_slice())?;
-            push_hash_kid(text, by.as_slice(), kid.get())
+            push_hash_kid(text, kid.get(), by.as_slice())
         }
         Code::Ord {
             count,
@@ -256,18 +256,18 @@ pub fn push_code(text: &mut String, code: &Code) -> Result<(), AllocError> {
             hi,
         } => {
             push_ord_key(text, *count, *body, key.get())?;
-            push_ord_kid(text, lo, hi, kid.get())
+            push_ord_kid(text, kid.get(), lo, hi)
         }
-        Code::Select(es, kid) => push_select(text, es.as_slice(), kid.get()),
-        Code::Filter(e, kid) => push_filter(text, e, kid.get()),
+        Code::Select(es, kid) => push_select(text, kid.get(), es.as_slice()),
+        Code::Filter(e, kid) => push_filter(text, kid.get(), e),
         Code::Dep(scope, first, second) => {
             push_first(text, *scope, first.get())?;
             push_over(text, second.get())
         }
         Code::Group(keys, aggs, kid) => {
-            push_group(text, keys.as_slice(), aggs.as_slice(), kid.get())
+            push_group(text, kid.get(), keys.as_slice(), aggs.as_slice())
         }
-        Code::Order(keys, kid) => push_order(text, keys.as_slice(), kid.get()),
+        Code::Order(keys, kid) => push_order(text, kid.get(), keys.as_slice()),
         Code::Dedup(kid) => push_dedup(text, kid.get()),
     }
 }

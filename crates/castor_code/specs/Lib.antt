@@ -1,0 +1,15 @@
+pub mod Data
+pub mod Directories
+pub mod LayoutMeaning
+pub mod Pieces
+pub mod Readings
+pub mod Shapes
+pub mod Skips
+pub mod CodeForms
+pub mod CodeTyping
+pub mod Forms
+pub mod Reads
+pub mod CodeReadings
+pub mod Steps
+pub mod CodeAnswers
+pub mod Tags

@@ -1,0 +1,183 @@
+//! What is held: each operator over small tables, and faults.
+
+ghost use Rattle.castor_parse.specs.Formed.{IsFormed};
+
+use crate::queries::known_file;
+use crate::shown::shown;
+use crate::tables::tables;
+use castor_alg::{Held, Rel};
+use castor_parse::File;
+use castor_schema::{SchemaError, check};
+use castor_stage::{HoldError, hold};
+use castor_val::{Faults, Memory};
+use std::alloc::Global;
+use std::process::Abort;
+use std::test::Fail;
+
+/// What is held for a query over the known tables.
+pub fn held(alloc: Global, query: &Rel) -> Result<Held, HoldError> {
+    match tables(alloc) {
+        Ok(tables) => hold(alloc, query, tables.as_slice()),
+        Err(Memory) => Err(HoldError::Memory),
+    }
+}
+
+/// The text of what is held, where anything is.
+pub fn text_of(alloc: Global, held: Result<Held, HoldError>) -> Result<String, HoldError> {
+    match held {
+        Ok(held) => match shown(alloc, held) {
+            Ok(text) => Ok(text),
+            Err(_) => Err(HoldError::Memory),
+        },
+        Err(why) => Err(why),
+    }
+}
+
+/// Whether this is what is held.
+pub fn is_text(text: Result<String, HoldError>, due: &str) -> bool {
+    match text {
+        Ok(text) => text.as_str() == due,
+        Err(_) => false,
+    }
+}
+
+fn refusal_of(text: Result<String, HoldError>) -> Option<HoldError> {
+    match text {
+        Ok(_) => None,
+        Err(why) => Some(why),
+    }
+}
+
+fn checked_text(alloc: Global, file: File) -> Result<Result<String, HoldError>, SchemaError>
+    requires formed { IsFormed file }
+{
+    match check(alloc, &file) {
+        Ok(found) => Ok(text_of(alloc, held(alloc, &found.query))),
+        Err(why) => Err(why),
+    }
+}
+
+// Whether this is held for a query over the known tables and the parameter.
+fn holds(alloc: Global, query: &str, due: &str) -> Result<bool, Fail> {
+    let file = known_file(alloc, query)?;
+    Ok(is_text(checked_text(alloc, file)?, due))
+}
+
+// Why nothing is held for a query over the known tables and the parameter.
+fn refusal(alloc: Global, query: &str) -> Result<Option<HoldError>, Fail> {
+    let file = known_file(alloc, query)?;
+    Ok(refusal_of(checked_text(alloc, file)?))
+}
+
+#[test]
+fn each_operator_holds_its_shape(rt: HostRuntime) -> Result<(), Fail> {
+    let cases = [
+        ("scalar(7)", "7"),
+        ("cross(scalar(1), scalar(2))", "( 1 2)"),
+        ("concat(scalar(1), scalar(2))", "( 1 2)"),
+        (
+            "depjoin(scalar(1) as k, filter(k.0 = 1, scalar(2)))",
+            "( 1 <2>)",
+        ),
+        ("select([$p], filter($p = 1, scalar(1)))", "<<1>>"),
+        (
+            "groupby([], [count()], orderby([c0], dedup(scalar(1))))",
+            "<<<1>>>",
+        ),
+        ("list(numbers as k, scalar(k.0))", "[ 3 1 3]"),
+        ("list(none as k, scalar(k.0))", "[]"),
+        (
+            "concat(list(numbers as k, scalar(k.0)), scalar(9))",
+            "( [ 3 1 3] 9)",
+        ),
+        // A table and a join at run.
+        ("numbers", "()"),
+        ("join(true, numbers, shares)", "()"),
+    ];
+    for case in cases.as_slice() {
+        let is_so = holds(rt.alloc(), case.0, case.1)?;
+        assert!(rt; is_so, "{}", case.0);
+    }
+    Ok(())
+}
+
+#[test]
+fn an_index_holds_each_key_once_and_ascending(rt: HostRuntime) -> Result<(), Fail> {
+    let cases = [
+        (
+            "hash(pairs as k, scalar(k.0), [$p, 1])",
+            "{ 1,1:1 1,2:1 3,1:3}",
+        ),
+        (
+            "ordered(select([a], pairs) as k, scalar(k.0), any, <= $p)",
+            "{ 1:1 3:3}",
+        ),
+        ("hash(names as k, scalar(k.0), ['x'])", "{ ann:ann bob:bob}"),
+        ("hash(none as k, scalar(k.0), [1])", "{}"),
+        // In one another.
+        (
+            "hash(select([a], steps) as k, ordered(select([b], filter(a = k.0, steps)) as j, scalar(j.0), any, any), [$p])",
+            "{ 1:{ 7:7} 2:{ 4:4 5:5}}",
+        ),
+        (
+            "list(steps as k, list(select([b], filter(a = k.0, steps)) as j, scalar(j.0)))",
+            "[ [ 5 4] [ 7] [ 5 4]]",
+        ),
+    ];
+    for case in cases.as_slice() {
+        let is_so = holds(rt.alloc(), case.0, case.1)?;
+        assert!(rt; is_so, "{}", case.0);
+    }
+    Ok(())
+}
+
+#[test]
+fn what_is_not_met_does_not_fault(rt: HostRuntime) -> Result<(), Fail> {
+    let cases = [
+        ("list(filter(n > 0, shares) as k, scalar(6 / k.0))", "[ 3]"),
+        ("list(none as k, scalar(1 / 0))", "[]"),
+        // What is computed at run.
+        ("filter(1 / 0 = 1, scalar(1))", "<1>"),
+    ];
+    for case in cases.as_slice() {
+        let is_so = holds(rt.alloc(), case.0, case.1)?;
+        assert!(rt; is_so, "{}", case.0);
+    }
+    Ok(())
+}
+
+#[test]
+fn the_faults_of_all_sources_and_scalars_are_joined(rt: HostRuntime) -> Result<(), Fail> {
+    let both = Faults::OVERFLOW.union(Faults::DIVISION);
+    let cases = [
+        // The row that faults is dropped, and its fault counts.
+        (
+            "list(select([6 / n], shares) as k, scalar(k.0))",
+            Faults::DIVISION,
+        ),
+        (
+            "hash(select([6 / n], shares) as k, scalar(k.0), [1])",
+            Faults::DIVISION,
+        ),
+        ("scalar(9223372036854775807 + 1)", Faults::OVERFLOW),
+        ("list(shares as k, scalar(6 / k.0))", Faults::DIVISION),
+        (
+            "ordered(shares as k, scalar(6 / k.0), any, any)",
+            Faults::DIVISION,
+        ),
+        // A scalar beside a source.
+        (
+            "cross(scalar(9223372036854775807 + 1), hash(select([6 / n], shares) as k, scalar(k.0), [1]))",
+            both,
+        ),
+        (
+            "cross(list(select([9223372036854775807 + n], shares) as k, scalar(k.0)), scalar(1 / 0))",
+            both,
+        ),
+    ];
+    for case in cases.as_slice() {
+        let found = refusal(rt.alloc(), case.0)?;
+        assert_eq!(rt; found, Some(HoldError::Faults(case.1)), "{}", case.0);
+    }
+    Ok(())
+}

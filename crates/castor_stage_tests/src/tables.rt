@@ -1,0 +1,58 @@
+//! The tables of the tests, as they are declared.
+
+use castor_val::{Memory, Row, Table, Text, Value};
+use std::alloc::Global;
+
+fn row(alloc: Global, numbers: &[i64]) -> Result<Row, Memory> {
+    let mut row = Row::new(alloc);
+    for number in numbers {
+        row.push(Value::Int(*number))?;
+    }
+    Ok(row)
+}
+
+fn table(alloc: Global, rows: &[&[i64]]) -> Result<Table, Memory> {
+    let mut table = Table::new(alloc);
+    for numbers in rows {
+        table.push(row(alloc, *numbers)?)?;
+    }
+    Ok(table)
+}
+
+fn name(alloc: Global, text: &str) -> Result<Row, Memory> {
+    let mut row = Row::new(alloc);
+    row.push(Value::Text(Text::from_str(alloc, text)?))?;
+    Ok(row)
+}
+
+fn names(alloc: Global, texts: &[&str]) -> Result<Table, Memory> {
+    let mut table = Table::new(alloc);
+    for text in texts {
+        table.push(name(alloc, *text)?)?;
+    }
+    Ok(table)
+}
+
+fn pushed(mut tables: Vec<Table>, table: Table) -> Result<Vec<Table>, Memory> {
+    tables.push(table)?;
+    Ok(tables)
+}
+
+// The tables of one number a row.
+fn single(alloc: Global) -> Result<Vec<Table>, Memory> {
+    let tables = pushed(Vec::new(alloc), table(alloc, &[&[3], &[1], &[3]])?)?;
+    let tables = pushed(tables, Table::new(alloc))?;
+    pushed(tables, table(alloc, &[&[0], &[2]])?)
+}
+
+// These, and the tables of two numbers a row.
+fn numbers(alloc: Global) -> Result<Vec<Table>, Memory> {
+    let tables = single(alloc)?;
+    let tables = pushed(tables, table(alloc, &[&[3, 1], &[1, 2], &[3, 1], &[1, 1]])?)?;
+    pushed(tables, table(alloc, &[&[2, 5], &[1, 7], &[2, 4]])?)
+}
+
+/// All tables.
+pub fn tables(alloc: Global) -> Result<Vec<Table>, Memory> {
+    pushed(numbers(alloc)?, names(alloc, &["bob", "ann", "bob"])?)
+}

@@ -1,0 +1,89 @@
+//! The shapes of relations as texts: the names of operators, tables as `t0`, scopes as `s0`, and of the
+//! expressions those of scalars that are just a column of a scope, as `s0.1`.
+
+use castor_alg::{Expr, Rel};
+use castor_val::{Cell, TextBuffer};
+use std::alloc::{AllocError, Global};
+
+type Pushed = Result<(), AllocError>;
+
+fn push_number(text: &mut String, before: &str, number: u32) -> Pushed {
+    text.push_str(before)?;
+    text.push_str(Cell::Int(i64::from(number)).text(&mut TextBuffer::new()))
+}
+
+fn push_value(text: &mut String, e: &Expr) -> Pushed {
+    match e {
+        Expr::Scope(scope, at) => {
+            push_number(text, "s", *scope)?;
+            push_number(text, ".", *at)
+        }
+        _ => text.push_str("value"),
+    }
+}
+
+#[cycle(push)]
+fn push_all(text: &mut String, name: &str, operands: &[Rel]) -> Pushed {
+    text.push_str(name)?;
+    let mut before = "(";
+    for operand in operands {
+        text.push_str(before)?;
+        push(text, operand)?;
+        before = ", ";
+    }
+    text.push_str(")")
+}
+
+#[cycle(push)]
+fn push_last(text: &mut String, before: &str, operand: &Rel) -> Pushed {
+    text.push_str(before)?;
+    push(text, operand)?;
+    text.push_str(")")
+}
+
+#[cycle(push)]
+fn push_source(text: &mut String, name: &str, source: &Rel, scope: u32) -> Pushed {
+    text.push_str(name)?;
+    push(text, source)?;
+    push_number(text, " as s", scope)
+}
+
+#[cycle(push)]
+fn push_binder(text: &mut String, name: &str, scope: u32, source: &Rel, body: &Rel) -> Pushed {
+    push_source(text, name, source, scope)?;
+    push_last(text, ", ", body)
+}
+
+#[cycle(push)]
+fn push_join(text: &mut String, left: &Rel, right: &Rel) -> Pushed {
+    text.push_str("join(")?;
+    push(text, left)?;
+    push_last(text, ", ", right)
+}
+
+#[cycle(push)]
+fn push(text: &mut String, query: &Rel) -> Pushed {
+    match query {
+        Rel::Table(at) => push_number(text, "t", *at),
+        Rel::Scalar(e) => push_value(text, e),
+        Rel::Cross(rs) => push_all(text, "cross", rs.as_slice()),
+        Rel::Concat(rs) => push_all(text, "concat", rs.as_slice()),
+        Rel::Select(_, r) => push_last(text, "select(", r.get()),
+        Rel::Filter(_, r) => push_last(text, "filter(", r.get()),
+        Rel::Join(_, r, s) => push_join(text, r.get(), s.get()),
+        Rel::DepJoin(k, r, s) => push_binder(text, "depjoin(", *k, r.get(), s.get()),
+        Rel::Group(_, _, r) => push_last(text, "groupby(", r.get()),
+        Rel::Order(_, r) => push_last(text, "orderby(", r.get()),
+        Rel::Dedup(r) => push_last(text, "dedup(", r.get()),
+        Rel::List(k, r, s) => push_binder(text, "list(", *k, r.get(), s.get()),
+        Rel::Hash(k, r, s, _) => push_binder(text, "hash(", *k, r.get(), s.get()),
+        Rel::Ord(k, r, s, _, _) => push_binder(text, "ordered(", *k, r.get(), s.get()),
+    }
+}
+
+/// The shape of a relation.
+pub fn shown(alloc: Global, query: Rel) -> Result<String, AllocError> {
+    let mut text = String::new(alloc);
+    push(&mut text, &query)?;
+    Ok(text)
+}

@@ -104,7 +104,11 @@ fn what_waits_stays_over_what_is_stored(rt: HostRuntime) {
     is_finished(
         &rt,
         a,
-        order(a, &[falling(0)], dedup(a, group(a, &[], &[Agg::Min(2)], asked(a)))),
+        order(
+            a,
+            &[falling(0)],
+            dedup(a, group(a, &[], &[Agg::Min(2)], asked(a))),
+        ),
         "orderby(dedup(groupby(filter(list(t0 as s0, cross(s0.0, s0.1, s0.2))))))",
     );
     is_finished(
@@ -146,13 +150,25 @@ fn layouts_stay_and_their_sources_are_not_stored(rt: HostRuntime) {
     is_finished(
         &rt,
         a,
-        hash(a, 0, select(a, columns(a, &[1]), table(0)), named(a, 0, 0), one(a, param(0))),
+        hash(
+            a,
+            0,
+            select(a, columns(a, &[1]), table(0)),
+            named(a, 0, 0),
+            one(a, param(0)),
+        ),
         "hash(select(t0) as s0, list(filter(t1) as s1, cross(s1.0, s1.1)))",
     );
     is_finished(
         &rt,
         a,
-        ordered_from(a, 0, select(a, columns(a, &[2]), table(0)), asked(a), param(1)),
+        ordered_from(
+            a,
+            0,
+            select(a, columns(a, &[2]), table(0)),
+            asked(a),
+            param(1),
+        ),
         "ordered(select(t0) as s0, filter(list(t0 as s1, cross(s1.0, s1.1, s1.2))))",
     );
     // The scope of a layout is known before the question, also where its number is that of a run scope.
@@ -172,7 +188,12 @@ fn layouts_stay_and_their_sources_are_not_stored(rt: HostRuntime) {
 
 // What stores two tables besides a scope with this number.
 fn numbered(a: Global, k: u32) -> MadeRel {
-    dep_join(a, k, table(1), filter(a, equal(a, col(0), param(0)), table(1)))
+    dep_join(
+        a,
+        k,
+        table(1),
+        filter(a, equal(a, col(0), param(0)), table(1)),
+    )
 }
 
 #[test]
@@ -202,7 +223,7 @@ fn filters(a: Global, count: u32) -> MadeRel {
 #[test]
 fn a_finished_query_has_4096_nodes_and_a_depth_of_64(rt: HostRuntime) {
     let a = rt.alloc();
-    // A list, its source, and four nodes of its body's scalar.
+    // Two nodes for each value, and six more: the list, the `dedup`, the `concat`, and the body.
     is_finished_at_all(&rt, a, dedup(a, values(a, 2_045)));
     is_too_large(&rt, a, dedup(a, values(a, 2_046)));
     is_finished_at_all(&rt, a, filters(a, 62));

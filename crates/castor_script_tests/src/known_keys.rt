@@ -34,7 +34,12 @@ fn filters_and_distinct_rows_keep_keys(rt: HostRuntime) {
     let a = rt.alloc();
     let keys = [falling(2), rising(0)];
     has_keys(&rt, a, sorted(a), &keys);
-    has_keys(&rt, a, filter(a, equal(a, col(1), param(0)), dedup(a, sorted(a))), &keys);
+    has_keys(
+        &rt,
+        a,
+        filter(a, equal(a, col(1), param(0)), dedup(a, sorted(a))),
+        &keys,
+    );
     has_keys(&rt, a, table(0), &[]);
     has_keys(&rt, a, cross(a, sorted(a), table(1)), &[]);
     has_keys(&rt, a, dep_join(a, 0, sorted(a), sorted(a)), &[]);
@@ -49,7 +54,12 @@ fn projections_move_keys_to_the_first_such_item(rt: HostRuntime) {
         select(a, columns(a, &[0, 2, 0]), sorted(a)),
         &[falling(1), rising(0)],
     );
-    has_keys(&rt, a, select(a, columns(a, &[1, 2, 2]), sorted(a)), &[falling(1)]);
+    has_keys(
+        &rt,
+        a,
+        select(a, columns(a, &[1, 2, 2]), sorted(a)),
+        &[falling(1)],
+    );
     // The first key is left out, so that the second says nothing.
     has_keys(&rt, a, select(a, columns(a, &[0, 1, 0]), sorted(a)), &[]);
 }
@@ -64,9 +74,19 @@ fn lists_move_keys_into_a_cross_of_scalars(rt: HostRuntime) {
         filter(a, equal(a, col(1), param(0)), rows),
         &[falling(2), rising(0)],
     );
-    has_keys(&rt, a, list(a, 7, sorted(a), scalars(a, 7, &[1, 2, 2])), &[falling(1)]);
+    has_keys(
+        &rt,
+        a,
+        list(a, 7, sorted(a), scalars(a, 7, &[1, 2, 2])),
+        &[falling(1)],
+    );
     // The columns of another scope are the same for all rows.
-    has_keys(&rt, a, list(a, 7, sorted(a), scalars(a, 6, &[0, 1, 2])), &[]);
+    has_keys(
+        &rt,
+        a,
+        list(a, 7, sorted(a), scalars(a, 6, &[0, 1, 2])),
+        &[],
+    );
     has_keys(
         &rt,
         a,

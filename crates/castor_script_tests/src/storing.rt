@@ -32,7 +32,12 @@ fn each_operator_has_its_columns(rt: HostRuntime) {
     has_columns(&rt, a, concat(a, table(1), table(1)), 2);
     has_columns(&rt, a, select(a, columns(a, &[2]), table(0)), 1);
     has_columns(&rt, a, join(a, truth(), table(1), table(0)), 5);
-    has_columns(&rt, a, group(a, &[1], &[Agg::Count, Agg::Sum(2)], table(0)), 3);
+    has_columns(
+        &rt,
+        a,
+        group(a, &[1], &[Agg::Count, Agg::Sum(2)], table(0)),
+        3,
+    );
     has_columns(&rt, a, dep_join(a, 0, table(0), table(1)), 2);
     has_columns(&rt, a, hash(a, 0, table(1), table(0), one(a, param(0))), 3);
 }

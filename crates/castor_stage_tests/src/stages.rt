@@ -78,9 +78,14 @@ fn joins_at_run(rt: HostRuntime) -> Result<(), Fail> {
         "join($p = 1, numbers, shares)",
         "cross(scalar(1), join(true, numbers, shares))",
         "concat(join(true, scalar(1), scalar(2)), pairs)",
+        "select([1], join(true, scalar(1), scalar(2)))",
         "filter(true, join(true, scalar(1), scalar(2)))",
+        "groupby([], [count()], orderby([#0], dedup(join(true, scalar(1), scalar(2)))))",
         "depjoin(join(true, scalar(1), scalar(2)) as k, scalar(1))",
+        "depjoin(scalar(1) as k, join(true, scalar(1), scalar(2)))",
         "list(numbers as k, join(true, scalar(1), scalar(2)))",
+        "hash(numbers as k, join(true, scalar(1), scalar(2)), [1])",
+        "ordered(numbers as k, join(true, scalar(1), scalar(2)), any, <= 1)",
     ];
     for query in queries.as_slice() {
         let found = refusal(rt.alloc(), *query)?;
@@ -95,7 +100,10 @@ fn parameters_at_build(rt: HostRuntime) -> Result<(), Fail> {
         "scalar($p)",
         "scalar(1 + $p)",
         "scalar(not ($p = 1))",
+        "scalar(if($p = 1, 1, 2))",
         "scalar(if(true, 1, $p))",
+        "list(numbers as k, scalar(k.0 - $p))",
+        "list(depjoin(numbers as j, scalar($p)) as k, scalar(1))",
         "list(filter($p = 1, numbers) as k, scalar(1))",
         "hash(select([$p], numbers) as k, scalar(1), [1])",
         "ordered(select([n], join($p = 1, numbers, pairs)) as k, scalar(1), any, <= 1)",
@@ -114,10 +122,12 @@ fn parameters_at_build(rt: HostRuntime) -> Result<(), Fail> {
 fn scopes_of_run_at_build(rt: HostRuntime) -> Result<(), Fail> {
     let queries = [
         "depjoin(scalar(1) as k, scalar(k.0))",
+        "depjoin(scalar(1) as k, list(numbers as j, scalar(j.0 + k.0)))",
         "depjoin(scalar(1) as k, list(filter(n = k.0, numbers) as j, scalar(1)))",
         "depjoin(scalar(1) as k, hash(select([k.0], numbers) as j, scalar(1), [1]))",
         "depjoin(scalar(1) as k, ordered(select([n], join(n = k.0, numbers, pairs)) as j, scalar(1), any, any))",
         "depjoin(scalar(1) as k, list(hash(numbers as j, scalar(1), [k.0]) as i, scalar(1)))",
+        "depjoin(scalar(1) as k, list(ordered(numbers as j, scalar(1), >= k.0, any) as i, scalar(1)))",
         "depjoin(scalar(1) as k, list(ordered(numbers as j, scalar(1), any, < k.0) as i, scalar(1)))",
     ];
     for query in queries.as_slice() {
@@ -132,6 +142,7 @@ fn scopes_of_build_at_run(rt: HostRuntime) -> Result<(), Fail> {
     let queries = [
         "list(numbers as k, filter(k.0 = 1, scalar(1)))",
         "list(numbers as k, select([k.0], scalar(1)))",
+        "list(numbers as k, depjoin(scalar(1) as j, filter(j.0 = k.0, scalar(1))))",
         "hash(numbers as k, filter(k.0 = 1, scalar(1)), [1])",
         "ordered(numbers as k, filter(k.0 = 1, scalar(1)), any, any)",
         "list(numbers as k, hash(numbers as j, scalar(1), [k.0]))",

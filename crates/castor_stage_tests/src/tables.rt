@@ -33,26 +33,19 @@ fn names(alloc: Global, texts: &[&str]) -> Result<Table, Memory> {
     Ok(table)
 }
 
-fn pushed(mut tables: Vec<Table>, table: Table) -> Result<Vec<Table>, Memory> {
-    tables.push(table)?;
-    Ok(tables)
-}
-
-// The tables of one number a row.
-fn single(alloc: Global) -> Result<Vec<Table>, Memory> {
-    let tables = pushed(Vec::new(alloc), table(alloc, &[&[3], &[1], &[3]])?)?;
-    let tables = pushed(tables, Table::new(alloc))?;
-    pushed(tables, table(alloc, &[&[0], &[2]])?)
-}
-
-// These, and the tables of two numbers a row.
-fn numbers(alloc: Global) -> Result<Vec<Table>, Memory> {
-    let tables = single(alloc)?;
-    let tables = pushed(tables, table(alloc, &[&[3, 1], &[1, 2], &[3, 1], &[1, 1]])?)?;
-    pushed(tables, table(alloc, &[&[2, 5], &[1, 7], &[2, 4]])?)
-}
-
 /// All tables.
 pub fn tables(alloc: Global) -> Result<Vec<Table>, Memory> {
-    pushed(numbers(alloc)?, names(alloc, &["bob", "ann", "bob"])?)
+    let numbers: [&[&[i64]]; 5] = [
+        &[&[3], &[1], &[3]],
+        &[],
+        &[&[0], &[2]],
+        &[&[3, 1], &[1, 2], &[3, 1], &[1, 1]],
+        &[&[2, 5], &[1, 7], &[2, 4]],
+    ];
+    let mut tables = Vec::new(alloc);
+    for rows in numbers.as_slice() {
+        tables.push(table(alloc, *rows)?)?;
+    }
+    tables.push(names(alloc, &["bob", "ann", "bob"])?)?;
+    Ok(tables)
 }

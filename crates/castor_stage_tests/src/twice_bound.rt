@@ -2,144 +2,109 @@
 
 use crate::held::{held, is_text, text_of};
 use crate::stages::refusal_of;
-use castor_alg::{Expr, Rel};
+use castor_alg::{Expr, Rel, both, boxed};
 use castor_stage::StageError;
 use castor_val::{Memory, Value};
-use sqlite_items::{Boxed, Items};
+use sqlite_items::Items;
 use std::alloc::Global;
 use std::process::Abort;
-use std::test::Fail;
 
-/// What binds the scope 0.
-#[derive(Clone, Copy)]
-enum Binder {
-    /// A list of the table 0, whose scope is known at build.
-    List,
-    /// A dependent join of a value, whose scope is known at run where it stands there.
-    DepJoin,
+type MadeRel = Result<Rel, Memory>;
+
+fn one() -> MadeRel {
+    Ok(Rel::Scalar(Expr::Lit(Value::Int(1))))
 }
 
-impl Binder {
-    fn source(self) -> Rel {
-        match self {
-            Binder::List => Rel::Table(0),
-            Binder::DepJoin => one(),
-        }
-    }
-
-    fn over(self, alloc: Global, body: Rel) -> Result<Rel, Memory> {
-        let source = Boxed::new(alloc, self.source())?;
-        let body = Boxed::new(alloc, body)?;
-        match self {
-            Binder::List => Ok(Rel::List(0, source, body)),
-            Binder::DepJoin => Ok(Rel::DepJoin(0, source, body)),
-        }
-    }
+// A column of the scope 0, read at build.
+fn read_by_scalar(column: u32) -> MadeRel {
+    Ok(Rel::Scalar(Expr::Scope(0, column)))
 }
 
-fn one() -> Rel {
-    Rel::Scalar(Expr::Lit(Value::Int(1)))
+// A column of the scope 0, read at run where the filter stands there.
+fn read_by_filter(alloc: Global) -> MadeRel {
+    let operand = boxed(alloc, one())?;
+    Ok(Rel::Filter(Expr::Scope(0, 0), operand))
 }
 
-/// What reads the first column of the scope 0.
-#[derive(Clone, Copy)]
-enum Reader {
-    /// A scalar, which is computed at build.
-    Scalar,
-    /// A condition, which is computed at run where it stands there.
-    Filter,
+fn list(alloc: Global, source: MadeRel, body: MadeRel) -> MadeRel {
+    let (source, body) = both(boxed(alloc, source), boxed(alloc, body))?;
+    Ok(Rel::List(0, source, body))
 }
 
-impl Reader {
-    fn query(self, alloc: Global) -> Result<Rel, Memory> {
-        match self {
-            Reader::Scalar => Ok(Rel::Scalar(Expr::Scope(0, 0))),
-            Reader::Filter => Ok(Rel::Filter(Expr::Scope(0, 0), Boxed::new(alloc, one())?)),
-        }
-    }
+fn dep_join(alloc: Global, source: MadeRel, body: MadeRel) -> MadeRel {
+    let (source, body) = both(boxed(alloc, source), boxed(alloc, body))?;
+    Ok(Rel::DepJoin(0, source, body))
 }
 
-fn twice_bound(alloc: Global, outer: Binder, inner: Binder, reader: Reader) -> Result<Rel, Memory> {
-    let body = inner.over(alloc, reader.query(alloc)?)?;
-    outer.over(alloc, body)
-}
-
-// Why a query that was made is refused, and None where it isn't.
-fn made_refusal(query: Result<Rel, Memory>) -> Result<Option<StageError>, Memory> {
-    Ok(refusal_of(&query?))
-}
-
-#[test]
-fn the_innermost_binder_of_a_number_counts(rt: HostRuntime) -> Result<(), Fail> {
-    let cases = [
-        (Binder::DepJoin, Binder::List, Reader::Scalar, None),
-        (Binder::List, Binder::DepJoin, Reader::Filter, None),
-        (
-            Binder::List,
-            Binder::DepJoin,
-            Reader::Scalar,
-            Some(StageError::RunScopeAtBuild),
-        ),
-        (
-            Binder::DepJoin,
-            Binder::List,
-            Reader::Filter,
-            Some(StageError::BuildScopeAtRun),
-        ),
-    ];
-    for case in cases.as_slice() {
-        let found = made_refusal(twice_bound(rt.alloc(), case.0, case.1, case.2))?;
-        assert_eq!(rt; found, case.3);
-    }
-    Ok(())
-}
-
-// The scope 0 read behind a list that binds it.
-fn read_behind(alloc: Global, reader: Reader) -> Result<Rel, Memory> {
+fn crossed(alloc: Global, left: MadeRel, right: MadeRel) -> MadeRel {
+    let (left, right) = both(left, right)?;
     let mut operands = Items::new(alloc);
-    operands.push(Binder::List.over(alloc, one())?)?;
-    operands.push(reader.query(alloc)?)?;
+    operands.push(left)?;
+    operands.push(right)?;
     Ok(Rel::Cross(operands))
 }
 
-#[test]
-fn a_scope_is_in_force_in_its_body_alone(rt: HostRuntime) -> Result<(), Fail> {
-    let cases = [
-        (Reader::Scalar, StageError::RunScopeAtBuild),
-        (Reader::Filter, StageError::BuildScopeAtRun),
-    ];
-    for case in cases.as_slice() {
-        let unbound = made_refusal(case.0.query(rt.alloc()))?;
-        assert_eq!(rt; unbound, Some(case.1));
-        let behind = made_refusal(read_behind(rt.alloc(), case.0))?;
-        assert_eq!(rt; behind, Some(case.1));
+// A list of the table 0, whose scope is known at build.
+fn listed(alloc: Global, body: MadeRel) -> MadeRel {
+    list(alloc, Ok(Rel::Table(0)), body)
+}
+
+// A dependent join of a value, whose scope is known at run where it stands there.
+fn joined(alloc: Global, body: MadeRel) -> MadeRel {
+    dep_join(alloc, one(), body)
+}
+
+fn refusal(query: Rel) -> Option<StageError> {
+    refusal_of(&query)
+}
+
+fn is_staged(rt: &impl Abort, query: MadeRel, due: Option<StageError>) {
+    match query {
+        Ok(query) => assert_eq!(rt; refusal(query), due),
+        Err(why) => assert!(rt; false, "{why:?}"),
     }
-    Ok(())
-}
-
-// A list of a value of the scope 0 that binds the same number.
-fn rebound(alloc: Global) -> Result<Rel, Memory> {
-    let source = Boxed::new(alloc, Rel::Scalar(Expr::Scope(0, 1)))?;
-    let body = Boxed::new(alloc, Rel::Scalar(Expr::Scope(0, 0)))?;
-    Ok(Rel::List(0, source, body))
-}
-
-// Such a list for each row of the table of steps.
-fn rebound_for_each_step(alloc: Global) -> Result<Rel, Memory> {
-    let source = Boxed::new(alloc, Rel::Table(4))?;
-    let body = Boxed::new(alloc, rebound(alloc)?)?;
-    Ok(Rel::List(0, source, body))
-}
-
-// Whether this is held for a query that was made.
-fn made_holds(alloc: Global, query: Result<Rel, Memory>, due: &str) -> Result<bool, Memory> {
-    Ok(is_text(text_of(alloc, held(alloc, &query?)), due))
 }
 
 #[test]
-fn the_innermost_row_of_a_number_is_held(rt: HostRuntime) -> Result<(), Fail> {
-    let alloc = rt.alloc();
-    let is_so = made_holds(alloc, rebound_for_each_step(alloc), "[ [ 5] [ 7] [ 4]]")?;
-    assert!(rt; is_so);
-    Ok(())
+fn the_innermost_binder_of_a_number_counts(rt: HostRuntime) {
+    let a = rt.alloc();
+    is_staged(&rt, joined(a, listed(a, read_by_scalar(0))), None);
+    is_staged(&rt, listed(a, joined(a, read_by_filter(a))), None);
+    is_staged(
+        &rt,
+        listed(a, joined(a, read_by_scalar(0))),
+        Some(StageError::RunScopeAtBuild),
+    );
+    is_staged(
+        &rt,
+        joined(a, listed(a, read_by_filter(a))),
+        Some(StageError::BuildScopeAtRun),
+    );
+}
+
+#[test]
+fn a_scope_is_in_force_in_its_body_alone(rt: HostRuntime) {
+    let a = rt.alloc();
+    let build = Some(StageError::RunScopeAtBuild);
+    let run = Some(StageError::BuildScopeAtRun);
+    is_staged(&rt, read_by_scalar(0), build);
+    is_staged(&rt, read_by_filter(a), run);
+    is_staged(&rt, crossed(a, listed(a, one()), read_by_scalar(0)), build);
+    is_staged(&rt, crossed(a, joined(a, one()), read_by_filter(a)), run);
+    is_staged(&rt, list(a, read_by_scalar(0), one()), build);
+}
+
+fn holds(alloc: Global, query: Rel, due: &str) -> bool {
+    is_text(text_of(alloc, held(alloc, &query)), due)
+}
+
+#[test]
+fn the_innermost_row_of_a_number_is_held(rt: HostRuntime) {
+    let a = rt.alloc();
+    // For each step a list of its second number.
+    let inner = list(a, read_by_scalar(1), read_by_scalar(0));
+    match list(a, Ok(Rel::Table(4)), inner) {
+        Ok(query) => assert!(rt; holds(a, query, "[ [ 5] [ 7] [ 4]]")),
+        Err(why) => assert!(rt; false, "{why:?}"),
+    }
 }

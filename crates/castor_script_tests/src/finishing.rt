@@ -76,19 +76,19 @@ fn named(a: Global, k: u32, at: u32) -> MadeRel {
 #[test]
 fn what_waits_for_no_question_is_stored(rt: HostRuntime) {
     let a = rt.alloc();
-    is_finished(&rt, a, table(0), "list(t0 as s0, cross(s0.0, s0.1, s0.2))");
+    is_finished(&rt, a, table(0), "list(t0 as s0, cross( s0.0 s0.1 s0.2))");
     is_finished(
         &rt,
         a,
         filter(a, truth(), join(a, truth(), table(1), table(1))),
-        "list(filter(join(t1, t1)) as s0, cross(s0.0, s0.1, s0.2, s0.3))",
+        "list(filter(join(t1, t1)) as s0, cross( s0.0 s0.1 s0.2 s0.3))",
     );
     // The scope of a dependent join isn't free in it.
     is_finished(
         &rt,
         a,
         dep_join(a, 0, table(0), named(a, 0, 1)),
-        "list(depjoin(t0 as s0, filter(t1)) as s1, cross(s1.0, s1.1))",
+        "list(depjoin(t0 as s0, filter(t1)) as s1, cross( s1.0 s1.1))",
     );
 }
 
@@ -99,7 +99,7 @@ fn what_waits_stays_over_what_is_stored(rt: HostRuntime) {
         &rt,
         a,
         asked(a),
-        "filter(list(t0 as s0, cross(s0.0, s0.1, s0.2)))",
+        "filter(list(t0 as s0, cross( s0.0 s0.1 s0.2)))",
     );
     is_finished(
         &rt,
@@ -109,26 +109,26 @@ fn what_waits_stays_over_what_is_stored(rt: HostRuntime) {
             &[falling(0)],
             dedup(a, group(a, &[], &[Agg::Min(2)], asked(a))),
         ),
-        "orderby(dedup(groupby(filter(list(t0 as s0, cross(s0.0, s0.1, s0.2))))))",
+        "orderby(dedup(groupby(filter(list(t0 as s0, cross( s0.0 s0.1 s0.2))))))",
     );
     is_finished(
         &rt,
         a,
         select(a, one(a, param(1)), table(1)),
-        "select(list(t1 as s0, cross(s0.0, s0.1)))",
+        "select(list(t1 as s0, cross( s0.0 s0.1)))",
     );
     is_finished(
         &rt,
         a,
         join(a, equal(a, col(0), param(0)), table(1), table(1)),
-        "join(list(t1 as s0, cross(s0.0, s0.1)), list(t1 as s1, cross(s1.0, s1.1)))",
+        "join(list(t1 as s0, cross( s0.0 s0.1)), list(t1 as s1, cross( s1.0 s1.1)))",
     );
     // A row of a run scope comes with the question.
     is_finished(
         &rt,
         a,
         dep_join(a, 0, asked(a), named(a, 0, 1)),
-        "depjoin(filter(list(t0 as s1, cross(s1.0, s1.1, s1.2))) as s0, filter(list(t1 as s2, cross(s2.0, s2.1))))",
+        "depjoin(filter(list(t0 as s1, cross( s1.0 s1.1 s1.2))) as s0, filter(list(t1 as s2, cross( s2.0 s2.1))))",
     );
 }
 
@@ -145,7 +145,7 @@ fn layouts_stay_and_their_sources_are_not_stored(rt: HostRuntime) {
         &rt,
         a,
         cross(a, table(1), concat(a, scalar(int(1)), scalar(int(2)))),
-        "cross(list(t1 as s0, cross(s0.0, s0.1)), concat(value, value))",
+        "cross( list(t1 as s0, cross( s0.0 s0.1)) concat( value value))",
     );
     is_finished(
         &rt,
@@ -157,7 +157,7 @@ fn layouts_stay_and_their_sources_are_not_stored(rt: HostRuntime) {
             named(a, 0, 0),
             one(a, param(0)),
         ),
-        "hash(select(t0) as s0, list(filter(t1) as s1, cross(s1.0, s1.1)))",
+        "hash(select(t0) as s0, list(filter(t1) as s1, cross( s1.0 s1.1)))",
     );
     is_finished(
         &rt,
@@ -169,20 +169,20 @@ fn layouts_stay_and_their_sources_are_not_stored(rt: HostRuntime) {
             asked(a),
             param(1),
         ),
-        "ordered(select(t0) as s0, filter(list(t0 as s1, cross(s1.0, s1.1, s1.2))))",
+        "ordered(select(t0) as s0, filter(list(t0 as s1, cross( s1.0 s1.1 s1.2))))",
     );
     // The scope of a layout is known before the question, also where its number is that of a run scope.
     is_finished(
         &rt,
         a,
         dep_join(a, 0, asked(a), list(a, 0, table(1), named(a, 0, 0))),
-        "depjoin(filter(list(t0 as s1, cross(s1.0, s1.1, s1.2))) as s0, list(t1 as s0, list(filter(t1) as s2, cross(s2.0, s2.1))))",
+        "depjoin(filter(list(t0 as s1, cross( s1.0 s1.1 s1.2))) as s0, list(t1 as s0, list(filter(t1) as s2, cross( s2.0 s2.1))))",
     );
     is_finished(
         &rt,
         a,
         dep_join(a, 0, asked(a), list(a, 1, table(1), named(a, 0, 1))),
-        "depjoin(filter(list(t0 as s2, cross(s2.0, s2.1, s2.2))) as s0, list(t1 as s1, filter(list(t1 as s3, cross(s3.0, s3.1)))))",
+        "depjoin(filter(list(t0 as s2, cross( s2.0 s2.1 s2.2))) as s0, list(t1 as s1, filter(list(t1 as s3, cross( s3.0 s3.1)))))",
     );
 }
 
@@ -203,7 +203,7 @@ fn new_scopes_have_numbers_of_32_bits(rt: HostRuntime) {
         &rt,
         a,
         numbered(a, 4_294_967_293),
-        "depjoin(list(t1 as s4294967294, cross(s4294967294.0, s4294967294.1)) as s4294967293, filter(list(t1 as s4294967295, cross(s4294967295.0, s4294967295.1))))",
+        "depjoin(list(t1 as s4294967294, cross( s4294967294.0 s4294967294.1)) as s4294967293, filter(list(t1 as s4294967295, cross( s4294967295.0 s4294967295.1))))",
     );
     is_too_large(&rt, a, numbered(a, 4_294_967_294));
     is_too_large(&rt, a, numbered(a, 4_294_967_295));

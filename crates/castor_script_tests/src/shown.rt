@@ -1,15 +1,17 @@
 //! The shapes of relations as texts: the names of operators, tables as `t0`, scopes as `s0`, and of the
-//! expressions those of scalars that are just a column of a scope, as `s0.1`.
+//! expressions those of scalars that are just a column of a scope, as `s0.1`. Each operand of a `cross` or
+//! `concat` stands behind a space.
 
 use castor_alg::{Expr, Rel};
-use castor_val::{Cell, TextBuffer};
+use castor_val::{TextBuffer, Value};
 use std::alloc::{AllocError, Global};
 
 type Pushed = Result<(), AllocError>;
 
 fn push_number(text: &mut String, before: &str, number: u32) -> Pushed {
     text.push_str(before)?;
-    text.push_str(Cell::Int(i64::from(number)).text(&mut TextBuffer::new()))
+    let value = Value::Int(i64::from(number));
+    text.push_str(value.cell().text(&mut TextBuffer::new()))
 }
 
 fn push_value(text: &mut String, e: &Expr) -> Pushed {
@@ -25,11 +27,9 @@ fn push_value(text: &mut String, e: &Expr) -> Pushed {
 #[cycle(push)]
 fn push_all(text: &mut String, name: &str, operands: &[Rel]) -> Pushed {
     text.push_str(name)?;
-    let mut before = "(";
     for operand in operands {
-        text.push_str(before)?;
+        text.push_str(" ")?;
         push(text, operand)?;
-        before = ", ";
     }
     text.push_str(")")
 }
@@ -49,35 +49,38 @@ fn push_source(text: &mut String, name: &str, source: &Rel, scope: u32) -> Pushe
 }
 
 #[cycle(push)]
-fn push_binder(text: &mut String, name: &str, scope: u32, source: &Rel, body: &Rel) -> Pushed {
-    push_source(text, name, source, scope)?;
-    push_last(text, ", ", body)
-}
-
-#[cycle(push)]
-fn push_join(text: &mut String, left: &Rel, right: &Rel) -> Pushed {
-    text.push_str("join(")?;
-    push(text, left)?;
-    push_last(text, ", ", right)
-}
-
-#[cycle(push)]
 fn push(text: &mut String, query: &Rel) -> Pushed {
     match query {
         Rel::Table(at) => push_number(text, "t", *at),
         Rel::Scalar(e) => push_value(text, e),
-        Rel::Cross(rs) => push_all(text, "cross", rs.as_slice()),
-        Rel::Concat(rs) => push_all(text, "concat", rs.as_slice()),
+        Rel::Cross(rs) => push_all(text, "cross(", rs.as_slice()),
+        Rel::Concat(rs) => push_all(text, "concat(", rs.as_slice()),
         Rel::Select(_, r) => push_last(text, "select(", r.get()),
         Rel::Filter(_, r) => push_last(text, "filter(", r.get()),
-        Rel::Join(_, r, s) => push_join(text, r.get(), s.get()),
-        Rel::DepJoin(k, r, s) => push_binder(text, "depjoin(", *k, r.get(), s.get()),
+        Rel::Join(_, r, s) => {
+            text.push_str("join(")?;
+            push(text, r.get())?;
+            push_last(text, ", ", s.get())
+        }
+        Rel::DepJoin(k, r, s) => {
+            push_source(text, "depjoin(", r.get(), *k)?;
+            push_last(text, ", ", s.get())
+        }
         Rel::Group(_, _, r) => push_last(text, "groupby(", r.get()),
         Rel::Order(_, r) => push_last(text, "orderby(", r.get()),
         Rel::Dedup(r) => push_last(text, "dedup(", r.get()),
-        Rel::List(k, r, s) => push_binder(text, "list(", *k, r.get(), s.get()),
-        Rel::Hash(k, r, s, _) => push_binder(text, "hash(", *k, r.get(), s.get()),
-        Rel::Ord(k, r, s, _, _) => push_binder(text, "ordered(", *k, r.get(), s.get()),
+        Rel::List(k, r, s) => {
+            push_source(text, "list(", r.get(), *k)?;
+            push_last(text, ", ", s.get())
+        }
+        Rel::Hash(k, r, s, _) => {
+            push_source(text, "hash(", r.get(), *k)?;
+            push_last(text, ", ", s.get())
+        }
+        Rel::Ord(k, r, s, _, _) => {
+            push_source(text, "ordered(", r.get(), *k)?;
+            push_last(text, ", ", s.get())
+        }
     }
 }
 

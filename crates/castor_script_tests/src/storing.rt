@@ -62,12 +62,12 @@ fn is_stored(rt: &impl Abort, alloc: Global, query: MadeRel, due: &str) {
 #[test]
 fn each_column_is_stored_once(rt: HostRuntime) {
     let a = rt.alloc();
-    is_stored(&rt, a, table(1), "list(t1 as s7, cross(s7.0, s7.1))");
+    is_stored(&rt, a, table(1), "list(t1 as s7, cross( s7.0 s7.1))");
     is_stored(
         &rt,
         a,
         dep_join(a, 3, table(1), select(a, one(a, scope(3, 1)), table(0))),
-        "list(depjoin(t1 as s3, select(t0)) as s7, cross(s7.0))",
+        "list(depjoin(t1 as s3, select(t0)) as s7, cross( s7.0))",
     );
 }
 
@@ -95,7 +95,7 @@ fn text_by_store(alloc: Global, arg: &Arg) -> Result<String, RuleError> {
 #[test]
 fn the_rule_takes_no_argument(rt: HostRuntime) {
     match text_by_store(rt.alloc(), &Arg::Nothing) {
-        Ok(text) => assert_eq!(rt; text.as_str(), "list(t0 as s4, cross(s4.0, s4.1, s4.2))"),
+        Ok(text) => assert_eq!(rt; text.as_str(), "list(t0 as s4, cross( s4.0 s4.1 s4.2))"),
         Err(why) => assert!(rt; false, "{why:?}"),
     }
     match text_by_store(rt.alloc(), &Arg::Pred(Expr::Col(0))) {

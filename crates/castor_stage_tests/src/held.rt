@@ -14,45 +14,41 @@ use std::alloc::Global;
 use std::process::Abort;
 use std::test::Fail;
 
-/// What is held for a query over the known tables.
-pub fn held(alloc: Global, query: &Rel) -> Result<Held, HoldError> {
+fn held(alloc: Global, query: &Rel) -> Result<Held, HoldError> {
     match tables(alloc) {
         Ok(tables) => hold(alloc, query, tables.as_slice()),
         Err(Memory) => Err(HoldError::Memory),
     }
 }
 
-/// The text of what is held, where anything is.
-pub fn text_of(alloc: Global, held: Result<Held, HoldError>) -> Result<String, HoldError> {
-    match held {
-        Ok(held) => match shown(alloc, held) {
-            Ok(text) => Ok(text),
-            Err(_) => Err(HoldError::Memory),
-        },
-        Err(why) => Err(why),
-    }
-}
-
-/// Whether this is what is held.
-pub fn is_text(text: Result<String, HoldError>, due: &str) -> bool {
-    match text {
+fn is_text(alloc: Global, held: Held, due: &str) -> bool {
+    match shown(alloc, held) {
         Ok(text) => text.as_str() == due,
         Err(_) => false,
     }
 }
 
-fn refusal_of(text: Result<String, HoldError>) -> Option<HoldError> {
-    match text {
+/// Whether what is held for a query over the known tables has this text.
+pub fn is_held(alloc: Global, query: &Rel, due: &str) -> bool {
+    match held(alloc, query) {
+        Ok(held) => is_text(alloc, held, due),
+        Err(_) => false,
+    }
+}
+
+// Why nothing is held for a query over the known tables, and None where something is.
+fn refusal_of(alloc: Global, query: &Rel) -> Option<HoldError> {
+    match held(alloc, query) {
         Ok(_) => None,
         Err(why) => Some(why),
     }
 }
 
-fn checked_text(alloc: Global, file: File) -> Result<Result<String, HoldError>, SchemaError>
+fn checked_holds(alloc: Global, file: File, due: &str) -> Result<bool, SchemaError>
     requires formed { IsFormed file }
 {
     match check(alloc, &file) {
-        Ok(found) => Ok(text_of(alloc, held(alloc, &found.query))),
+        Ok(found) => Ok(is_held(alloc, &found.query, due)),
         Err(why) => Err(why),
     }
 }
@@ -60,13 +56,22 @@ fn checked_text(alloc: Global, file: File) -> Result<Result<String, HoldError>, 
 // Whether this is held for a query over the known tables and the parameter.
 fn holds(alloc: Global, query: &str, due: &str) -> Result<bool, Fail> {
     let file = known_file(alloc, query)?;
-    Ok(is_text(checked_text(alloc, file)?, due))
+    Ok(checked_holds(alloc, file, due)?)
 }
 
-// Why nothing is held for a query over the known tables and the parameter.
+fn checked_refusal(alloc: Global, file: File) -> Result<Option<HoldError>, SchemaError>
+    requires formed { IsFormed file }
+{
+    match check(alloc, &file) {
+        Ok(found) => Ok(refusal_of(alloc, &found.query)),
+        Err(why) => Err(why),
+    }
+}
+
+// Why nothing is held for a query over the known tables and the parameter, and None where something is.
 fn refusal(alloc: Global, query: &str) -> Result<Option<HoldError>, Fail> {
     let file = known_file(alloc, query)?;
-    Ok(refusal_of(checked_text(alloc, file)?))
+    Ok(checked_refusal(alloc, file)?)
 }
 
 #[test]

@@ -1,6 +1,6 @@
 //! Scope numbers that are bound twice or not at all, as the checker gives none.
 
-use crate::held::{held, is_text, text_of};
+use crate::held::is_held;
 use crate::stages::refusal_of;
 use castor_alg::{Expr, Rel, both, boxed};
 use castor_stage::StageError;
@@ -95,7 +95,7 @@ fn a_scope_is_in_force_in_its_body_alone(rt: HostRuntime) {
 }
 
 fn holds(alloc: Global, query: Rel, due: &str) -> bool {
-    is_text(text_of(alloc, held(alloc, &query)), due)
+    is_held(alloc, &query, due)
 }
 
 #[test]

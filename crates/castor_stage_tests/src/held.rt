@@ -74,6 +74,15 @@ fn refusal(alloc: Global, query: &str) -> Result<Option<HoldError>, Fail> {
     Ok(checked_refusal(alloc, file)?)
 }
 
+// Whether for each query this is held.
+fn are_held(rt: &impl Abort, alloc: Global, cases: &[(&str, &str)]) -> Result<(), Fail> {
+    for case in cases {
+        let is_so = holds(alloc, case.0, case.1)?;
+        assert!(rt; is_so, "{}", case.0);
+    }
+    Ok(())
+}
+
 #[test]
 fn each_operator_holds_its_shape(rt: HostRuntime) -> Result<(), Fail> {
     let cases = [
@@ -99,11 +108,7 @@ fn each_operator_holds_its_shape(rt: HostRuntime) -> Result<(), Fail> {
         ("numbers", "()"),
         ("join(true, numbers, shares)", "()"),
     ];
-    for case in cases.as_slice() {
-        let is_so = holds(rt.alloc(), case.0, case.1)?;
-        assert!(rt; is_so, "{}", case.0);
-    }
-    Ok(())
+    are_held(&rt, rt.alloc(), cases.as_slice())
 }
 
 #[test]
@@ -129,11 +134,7 @@ fn an_index_holds_each_key_once_and_ascending(rt: HostRuntime) -> Result<(), Fai
             "[ [ 5 4] [ 7] [ 5 4]]",
         ),
     ];
-    for case in cases.as_slice() {
-        let is_so = holds(rt.alloc(), case.0, case.1)?;
-        assert!(rt; is_so, "{}", case.0);
-    }
-    Ok(())
+    are_held(&rt, rt.alloc(), cases.as_slice())
 }
 
 #[test]
@@ -144,11 +145,7 @@ fn what_is_not_met_does_not_fault(rt: HostRuntime) -> Result<(), Fail> {
         // What is computed at run.
         ("filter(1 / 0 = 1, scalar(1))", "<1>"),
     ];
-    for case in cases.as_slice() {
-        let is_so = holds(rt.alloc(), case.0, case.1)?;
-        assert!(rt; is_so, "{}", case.0);
-    }
-    Ok(())
+    are_held(&rt, rt.alloc(), cases.as_slice())
 }
 
 #[test]

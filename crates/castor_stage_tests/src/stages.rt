@@ -34,6 +34,20 @@ fn refusal(alloc: Global, query: &str) -> Result<Option<StageError>, Fail> {
     Ok(checked_refusal(alloc, file)?)
 }
 
+// Whether each of the queries is refused for this cause, or none of them.
+fn are_staged(
+    rt: &impl Abort,
+    alloc: Global,
+    queries: &[&str],
+    due: Option<StageError>,
+) -> Result<(), Fail> {
+    for query in queries {
+        let found = refusal(alloc, *query)?;
+        assert_eq!(rt; found, due, "{query}");
+    }
+    Ok(())
+}
+
 #[test]
 fn what_stands_in_its_phase(rt: HostRuntime) -> Result<(), Fail> {
     let queries = [
@@ -43,11 +57,7 @@ fn what_stands_in_its_phase(rt: HostRuntime) -> Result<(), Fail> {
         "hash(numbers as k, ordered(filter(n = k.0, shares) as j, scalar(j.0), any, <= $p), [$p])",
         "depjoin(scalar(1) as k, hash(numbers as j, scalar(j.0), [k.0]))",
     ];
-    for query in queries.as_slice() {
-        let found = refusal(rt.alloc(), *query)?;
-        assert_eq!(rt; found, None, "{query}");
-    }
-    Ok(())
+    are_staged(&rt, rt.alloc(), queries.as_slice(), None)
 }
 
 #[test]
@@ -65,11 +75,12 @@ fn tables_at_run(rt: HostRuntime) -> Result<(), Fail> {
         "hash(numbers as k, numbers, [1])",
         "ordered(numbers as k, numbers, any, <= 1)",
     ];
-    for query in queries.as_slice() {
-        let found = refusal(rt.alloc(), *query)?;
-        assert_eq!(rt; found, Some(StageError::TableAtRun), "{query}");
-    }
-    Ok(())
+    are_staged(
+        &rt,
+        rt.alloc(),
+        queries.as_slice(),
+        Some(StageError::TableAtRun),
+    )
 }
 
 #[test]
@@ -87,11 +98,12 @@ fn joins_at_run(rt: HostRuntime) -> Result<(), Fail> {
         "hash(numbers as k, join(true, scalar(1), scalar(2)), [1])",
         "ordered(numbers as k, join(true, scalar(1), scalar(2)), any, <= 1)",
     ];
-    for query in queries.as_slice() {
-        let found = refusal(rt.alloc(), *query)?;
-        assert_eq!(rt; found, Some(StageError::JoinAtRun), "{query}");
-    }
-    Ok(())
+    are_staged(
+        &rt,
+        rt.alloc(),
+        queries.as_slice(),
+        Some(StageError::JoinAtRun),
+    )
 }
 
 #[test]
@@ -111,11 +123,12 @@ fn parameters_at_build(rt: HostRuntime) -> Result<(), Fail> {
         "list(ordered(numbers as j, scalar(1), >= $p, any) as k, scalar(1))",
         "list(ordered(numbers as j, scalar(1), any, < $p) as k, scalar(1))",
     ];
-    for query in queries.as_slice() {
-        let found = refusal(rt.alloc(), *query)?;
-        assert_eq!(rt; found, Some(StageError::ParamAtBuild), "{query}");
-    }
-    Ok(())
+    are_staged(
+        &rt,
+        rt.alloc(),
+        queries.as_slice(),
+        Some(StageError::ParamAtBuild),
+    )
 }
 
 #[test]
@@ -130,11 +143,12 @@ fn scopes_of_run_at_build(rt: HostRuntime) -> Result<(), Fail> {
         "depjoin(scalar(1) as k, list(ordered(numbers as j, scalar(1), >= k.0, any) as i, scalar(1)))",
         "depjoin(scalar(1) as k, list(ordered(numbers as j, scalar(1), any, < k.0) as i, scalar(1)))",
     ];
-    for query in queries.as_slice() {
-        let found = refusal(rt.alloc(), *query)?;
-        assert_eq!(rt; found, Some(StageError::RunScopeAtBuild), "{query}");
-    }
-    Ok(())
+    are_staged(
+        &rt,
+        rt.alloc(),
+        queries.as_slice(),
+        Some(StageError::RunScopeAtBuild),
+    )
 }
 
 #[test]
@@ -149,11 +163,12 @@ fn scopes_of_build_at_run(rt: HostRuntime) -> Result<(), Fail> {
         "list(numbers as k, ordered(numbers as j, scalar(1), >= k.0, any))",
         "list(numbers as k, ordered(numbers as j, scalar(1), any, < k.0))",
     ];
-    for query in queries.as_slice() {
-        let found = refusal(rt.alloc(), *query)?;
-        assert_eq!(rt; found, Some(StageError::BuildScopeAtRun), "{query}");
-    }
-    Ok(())
+    are_staged(
+        &rt,
+        rt.alloc(),
+        queries.as_slice(),
+        Some(StageError::BuildScopeAtRun),
+    )
 }
 
 #[test]

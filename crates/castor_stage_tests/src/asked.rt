@@ -36,12 +36,16 @@ fn held(alloc: Global, query: &Rel) -> Result<Held, HoldError> {
     }
 }
 
+fn is_shown(alloc: Global, held: &Held, due: &str) -> bool {
+    match shown(alloc, held) {
+        Ok(text) => text.as_str() == due,
+        Err(_) => false,
+    }
+}
+
 fn is_text(alloc: Global, held: Result<Held, HoldError>, due: &str) -> bool {
     match held {
-        Ok(held) => match shown(alloc, held) {
-            Ok(text) => text.as_str() == due,
-            Err(_) => false,
-        },
+        Ok(held) => is_shown(alloc, &held, due),
         Err(_) => false,
     }
 }

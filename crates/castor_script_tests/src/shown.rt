@@ -84,9 +84,13 @@ fn push(text: &mut String, query: &Rel) -> Pushed {
     }
 }
 
+fn shape(alloc: Global, query: &Rel) -> Result<String, AllocError> {
+    let mut text = String::new(alloc);
+    push(&mut text, query)?;
+    Ok(text)
+}
+
 /// The shape of a relation.
 pub fn shown(alloc: Global, query: Rel) -> Result<String, AllocError> {
-    let mut text = String::new(alloc);
-    push(&mut text, &query)?;
-    Ok(text)
+    shape(alloc, &query)
 }

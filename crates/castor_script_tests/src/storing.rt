@@ -8,67 +8,86 @@ use crate::shown::shown;
 use crate::types::{context, tables};
 use castor_alg::{Agg, Arg, Context, Expr, NestRule, Rel, type_of};
 use castor_nest::{RuleError, apply, column_count, store_rows};
-use castor_val::Memory;
+use castor_val::{Memory, Ty};
+use sqlite_items::Items;
 use std::alloc::Global;
 use std::process::Abort;
+use std::test::Fail;
 
-fn count(alloc: Global, query: Rel) -> Result<u64, Memory> {
-    let tables = tables(alloc)?;
-    Ok(column_count(&query, tables.as_slice()))
+fn count(query: Rel, tables: &[Items<Ty>]) -> u64 {
+    column_count(&query, tables)
 }
 
-fn has_columns(rt: &impl Abort, alloc: Global, query: MadeRel, due: u64) {
+fn has_columns(rt: &impl Abort, tables: &[Items<Ty>], query: MadeRel, due: u64) {
     match query {
-        Ok(query) => assert_eq!(rt; count(alloc, query), Ok(due)),
+        Ok(query) => assert_eq!(rt; count(query, tables), due),
         Err(why) => assert!(rt; false, "{why:?}"),
     }
 }
 
 #[test]
-fn each_operator_has_its_columns(rt: HostRuntime) {
+fn each_operator_has_its_columns(rt: HostRuntime) -> Result<(), Fail> {
     let a = rt.alloc();
-    has_columns(&rt, a, table(0), 3);
-    has_columns(&rt, a, cross(a, table(0), table(1)), 5);
-    has_columns(&rt, a, concat(a, table(1), table(1)), 2);
-    has_columns(&rt, a, select(a, columns(a, &[2]), table(0)), 1);
-    has_columns(&rt, a, join(a, truth(), table(1), table(0)), 5);
+    let types = tables(a)?;
+    let types = types.as_slice();
+    has_columns(&rt, types, table(0), 3);
+    has_columns(&rt, types, cross(a, table(0), table(1)), 5);
+    has_columns(&rt, types, concat(a, table(1), table(1)), 2);
+    has_columns(&rt, types, select(a, columns(a, &[2]), table(0)), 1);
+    has_columns(&rt, types, join(a, truth(), table(1), table(0)), 5);
     has_columns(
         &rt,
-        a,
+        types,
         group(a, &[1], &[Agg::Count, Agg::Sum(2)], table(0)),
         3,
     );
-    has_columns(&rt, a, dep_join(a, 0, table(0), table(1)), 2);
-    has_columns(&rt, a, hash(a, 0, table(1), table(0), one(a, param(0))), 3);
+    has_columns(&rt, types, dep_join(a, 0, table(0), table(1)), 2);
+    has_columns(
+        &rt,
+        types,
+        hash(a, 0, table(1), table(0), one(a, param(0))),
+        3,
+    );
+    Ok(())
 }
 
-fn stored_text(alloc: Global, query: Rel, scope: u32) -> Result<String, Memory> {
-    let tables = tables(alloc)?;
-    let stored = store_rows(alloc, query, scope, tables.as_slice())?;
-    Ok(shown(alloc, stored)?)
-}
-
-fn is_stored(rt: &impl Abort, alloc: Global, query: MadeRel, due: &str) {
-    let text = match query {
-        Ok(query) => stored_text(alloc, query, 7),
+fn stored(alloc: Global, query: MadeRel, tables: &[Items<Ty>]) -> MadeRel {
+    match query {
+        Ok(query) => store_rows(alloc, query, 7, tables),
         Err(why) => Err(why),
-    };
-    match text {
+    }
+}
+
+fn text_of(alloc: Global, stored: MadeRel) -> Result<String, Memory> {
+    match stored {
+        Ok(stored) => Ok(shown(alloc, stored)?),
+        Err(why) => Err(why),
+    }
+}
+
+fn is_stored(rt: &impl Abort, alloc: Global, stored: MadeRel, due: &str) {
+    match text_of(alloc, stored) {
         Ok(text) => assert_eq!(rt; text.as_str(), due),
         Err(why) => assert!(rt; false, "{why:?}"),
     }
 }
 
 #[test]
-fn each_column_is_stored_once(rt: HostRuntime) {
+fn each_column_is_stored_once(rt: HostRuntime) -> Result<(), Fail> {
     let a = rt.alloc();
-    is_stored(&rt, a, table(1), "list(t1 as s7, cross( s7.0 s7.1))");
+    let types = tables(a)?;
+    let types = types.as_slice();
+    let rows = stored(a, table(1), types);
+    is_stored(&rt, a, rows, "list(t1 as s7, cross( s7.0 s7.1))");
+    let read = select(a, one(a, scope(3, 1)), table(0));
+    let rows = stored(a, dep_join(a, 3, table(1), read), types);
     is_stored(
         &rt,
         a,
-        dep_join(a, 3, table(1), select(a, one(a, scope(3, 1)), table(0))),
+        rows,
         "list(depjoin(t1 as s3, select(t0)) as s7, cross( s7.0))",
     );
+    Ok(())
 }
 
 // The rule on the first table, where that is well typed.
@@ -83,10 +102,7 @@ fn table_by_store(alloc: Global, arg: &Arg, types: &Context) -> Option<Result<Re
 fn text_by_store(alloc: Global, arg: &Arg) -> Result<String, RuleError> {
     let types = context(alloc)?;
     match table_by_store(alloc, arg, &types) {
-        Some(Ok(stored)) => match shown(alloc, stored) {
-            Ok(text) => Ok(text),
-            Err(_) => Err(RuleError::Memory),
-        },
+        Some(Ok(stored)) => Ok(text_of(alloc, Ok(stored))?),
         Some(Err(why)) => Err(why),
         None => Err(RuleError::Shape),
     }

@@ -60,8 +60,8 @@ fn push_entries(text: &mut String, entries: &[Entry]) -> Result<(), AllocError> 
 }
 
 /// The text of held data.
-pub fn shown(alloc: Global, held: Held) -> Result<String, AllocError> {
+pub fn shown(alloc: Global, held: &Held) -> Result<String, AllocError> {
     let mut text = String::new(alloc);
-    push_held(&mut text, &held)?;
+    push_held(&mut text, held)?;
     Ok(text)
 }

@@ -1,51 +1,12 @@
 //! What is computed too early or too late: each cause from each kind of place.
 
-ghost use Rattle.castor_parse.specs.Formed.{IsFormed};
-
-use crate::queries::known_file;
-use castor_alg::Rel;
-use castor_parse::File;
-use castor_schema::{SchemaError, check};
-use castor_stage::{StageError, stage};
-use std::alloc::Global;
-use std::process::Abort;
+use crate::asked::Asked;
+use crate::queries::{are_all_so, are_so};
+use castor_stage::StageError;
 use std::test::Fail;
 
-/// Why a query is refused, and None where it isn't.
-pub fn refusal_of(query: &Rel) -> Option<StageError> {
-    match stage(query) {
-        Ok(()) => None,
-        Err(why) => Some(why),
-    }
-}
-
-fn checked_refusal(alloc: Global, file: File) -> Result<Option<StageError>, SchemaError>
-    requires formed { IsFormed file }
-{
-    match check(alloc, &file) {
-        Ok(found) => Ok(refusal_of(&found.query)),
-        Err(why) => Err(why),
-    }
-}
-
-// Why a query over the known tables and the parameter is refused, and None where it isn't.
-fn refusal(alloc: Global, query: &str) -> Result<Option<StageError>, Fail> {
-    let file = known_file(alloc, query)?;
-    Ok(checked_refusal(alloc, file)?)
-}
-
-// Whether each of the queries is refused for this cause, or none of them.
-fn are_staged(
-    rt: &impl Abort,
-    alloc: Global,
-    queries: &[&str],
-    due: Option<StageError>,
-) -> Result<(), Fail> {
-    for query in queries {
-        let found = refusal(alloc, *query)?;
-        assert_eq!(rt; found, due, "{query}");
-    }
-    Ok(())
+fn first(why: StageError) -> Asked {
+    Asked::Staged(Err(why))
 }
 
 #[test]
@@ -57,7 +18,7 @@ fn what_stands_in_its_phase(rt: HostRuntime) -> Result<(), Fail> {
         "hash(numbers as k, ordered(filter(n = k.0, shares) as j, scalar(j.0), any, <= $p), [$p])",
         "depjoin(scalar(1) as k, hash(numbers as j, scalar(j.0), [k.0]))",
     ];
-    are_staged(&rt, rt.alloc(), queries.as_slice(), None)
+    are_all_so(&rt, rt.alloc(), queries.as_slice(), Asked::Staged(Ok(())))
 }
 
 #[test]
@@ -75,11 +36,11 @@ fn tables_at_run(rt: HostRuntime) -> Result<(), Fail> {
         "hash(numbers as k, numbers, [1])",
         "ordered(numbers as k, numbers, any, <= 1)",
     ];
-    are_staged(
+    are_all_so(
         &rt,
         rt.alloc(),
         queries.as_slice(),
-        Some(StageError::TableAtRun),
+        first(StageError::TableAtRun),
     )
 }
 
@@ -98,11 +59,11 @@ fn joins_at_run(rt: HostRuntime) -> Result<(), Fail> {
         "hash(numbers as k, join(true, scalar(1), scalar(2)), [1])",
         "ordered(numbers as k, join(true, scalar(1), scalar(2)), any, <= 1)",
     ];
-    are_staged(
+    are_all_so(
         &rt,
         rt.alloc(),
         queries.as_slice(),
-        Some(StageError::JoinAtRun),
+        first(StageError::JoinAtRun),
     )
 }
 
@@ -123,11 +84,11 @@ fn parameters_at_build(rt: HostRuntime) -> Result<(), Fail> {
         "list(ordered(numbers as j, scalar(1), >= $p, any) as k, scalar(1))",
         "list(ordered(numbers as j, scalar(1), any, < $p) as k, scalar(1))",
     ];
-    are_staged(
+    are_all_so(
         &rt,
         rt.alloc(),
         queries.as_slice(),
-        Some(StageError::ParamAtBuild),
+        first(StageError::ParamAtBuild),
     )
 }
 
@@ -143,11 +104,11 @@ fn scopes_of_run_at_build(rt: HostRuntime) -> Result<(), Fail> {
         "depjoin(scalar(1) as k, list(ordered(numbers as j, scalar(1), >= k.0, any) as i, scalar(1)))",
         "depjoin(scalar(1) as k, list(ordered(numbers as j, scalar(1), any, < k.0) as i, scalar(1)))",
     ];
-    are_staged(
+    are_all_so(
         &rt,
         rt.alloc(),
         queries.as_slice(),
-        Some(StageError::RunScopeAtBuild),
+        first(StageError::RunScopeAtBuild),
     )
 }
 
@@ -163,11 +124,11 @@ fn scopes_of_build_at_run(rt: HostRuntime) -> Result<(), Fail> {
         "list(numbers as k, ordered(numbers as j, scalar(1), >= k.0, any))",
         "list(numbers as k, ordered(numbers as j, scalar(1), any, < k.0))",
     ];
-    are_staged(
+    are_all_so(
         &rt,
         rt.alloc(),
         queries.as_slice(),
-        Some(StageError::BuildScopeAtRun),
+        first(StageError::BuildScopeAtRun),
     )
 }
 
@@ -175,50 +136,49 @@ fn scopes_of_build_at_run(rt: HostRuntime) -> Result<(), Fail> {
 fn the_first_of_two_causes(rt: HostRuntime) -> Result<(), Fail> {
     let cases = [
         // Operands and sides from the left.
-        ("cross(scalar($p), numbers)", StageError::ParamAtBuild),
-        ("cross(numbers, scalar($p))", StageError::TableAtRun),
+        (
+            "cross(scalar($p), numbers)",
+            first(StageError::ParamAtBuild),
+        ),
+        ("cross(numbers, scalar($p))", first(StageError::TableAtRun)),
         (
             "depjoin(scalar(1) as k, scalar(k.0 + $p))",
-            StageError::RunScopeAtBuild,
+            first(StageError::RunScopeAtBuild),
         ),
         (
             "depjoin(scalar(1) as k, scalar($p + k.0))",
-            StageError::ParamAtBuild,
+            first(StageError::ParamAtBuild),
         ),
         // A relation before its expressions, and these before its operands.
         (
             "list(numbers as k, join(k.0 = 1, numbers, shares))",
-            StageError::JoinAtRun,
+            first(StageError::JoinAtRun),
         ),
         (
             "list(numbers as k, filter(k.0 = 1, numbers))",
-            StageError::BuildScopeAtRun,
+            first(StageError::BuildScopeAtRun),
         ),
         (
             "list(numbers as k, select([$p, k.0], numbers))",
-            StageError::BuildScopeAtRun,
+            first(StageError::BuildScopeAtRun),
         ),
         (
             "list(numbers as k, hash(filter($p = 1, numbers) as j, numbers, [k.0]))",
-            StageError::BuildScopeAtRun,
+            first(StageError::BuildScopeAtRun),
         ),
         (
             "list(numbers as k, ordered(filter($p = 1, numbers) as j, numbers, any, < k.0))",
-            StageError::BuildScopeAtRun,
+            first(StageError::BuildScopeAtRun),
         ),
         // A source before a body.
         (
             "list(filter($p = 1, numbers) as k, numbers)",
-            StageError::ParamAtBuild,
+            first(StageError::ParamAtBuild),
         ),
         (
             "hash(filter($p = 1, numbers) as k, numbers, [1])",
-            StageError::ParamAtBuild,
+            first(StageError::ParamAtBuild),
         ),
     ];
-    for case in cases.as_slice() {
-        let found = refusal(rt.alloc(), case.0)?;
-        assert_eq!(rt; found, Some(case.1), "{}", case.0);
-    }
-    Ok(())
+    are_so(&rt, rt.alloc(), cases.as_slice())
 }

@@ -1,7 +1,6 @@
 //! Scope numbers that are bound twice or not at all, as the checker gives none.
 
-use crate::held::is_held;
-use crate::stages::refusal_of;
+use crate::asked::Asked;
 use castor_alg::{Expr, Rel, both, boxed};
 use castor_stage::StageError;
 use castor_val::{Memory, Value};
@@ -54,13 +53,13 @@ fn joined(alloc: Global, body: MadeRel) -> MadeRel {
     dep_join(alloc, one(), body)
 }
 
-fn refusal(query: Rel) -> Option<StageError> {
-    refusal_of(&query)
+fn is_so(alloc: Global, query: Rel, asked: Asked) -> bool {
+    asked.is_so(alloc, &query)
 }
 
-fn is_staged(rt: &impl Abort, query: MadeRel, due: Option<StageError>) {
+fn is_made_so(rt: &impl Abort, alloc: Global, query: MadeRel, asked: Asked) {
     match query {
-        Ok(query) => assert_eq!(rt; refusal(query), due),
+        Ok(query) => assert!(rt; is_so(alloc, query, asked)),
         Err(why) => assert!(rt; false, "{why:?}"),
     }
 }
@@ -68,34 +67,35 @@ fn is_staged(rt: &impl Abort, query: MadeRel, due: Option<StageError>) {
 #[test]
 fn the_innermost_binder_of_a_number_counts(rt: HostRuntime) {
     let a = rt.alloc();
-    is_staged(&rt, joined(a, listed(a, read_by_scalar(0))), None);
-    is_staged(&rt, listed(a, joined(a, read_by_filter(a))), None);
-    is_staged(
-        &rt,
-        listed(a, joined(a, read_by_scalar(0))),
-        Some(StageError::RunScopeAtBuild),
-    );
-    is_staged(
-        &rt,
-        joined(a, listed(a, read_by_filter(a))),
-        Some(StageError::BuildScopeAtRun),
-    );
+    let in_phase = Asked::Staged(Ok(()));
+    is_made_so(&rt, a, joined(a, listed(a, read_by_scalar(0))), in_phase);
+    is_made_so(&rt, a, listed(a, joined(a, read_by_filter(a))), in_phase);
+    let run = Asked::Staged(Err(StageError::RunScopeAtBuild));
+    is_made_so(&rt, a, listed(a, joined(a, read_by_scalar(0))), run);
+    let build = Asked::Staged(Err(StageError::BuildScopeAtRun));
+    is_made_so(&rt, a, joined(a, listed(a, read_by_filter(a))), build);
 }
 
 #[test]
 fn a_scope_is_in_force_in_its_body_alone(rt: HostRuntime) {
     let a = rt.alloc();
-    let build = Some(StageError::RunScopeAtBuild);
-    let run = Some(StageError::BuildScopeAtRun);
-    is_staged(&rt, read_by_scalar(0), build);
-    is_staged(&rt, read_by_filter(a), run);
-    is_staged(&rt, crossed(a, listed(a, one()), read_by_scalar(0)), build);
-    is_staged(&rt, crossed(a, joined(a, one()), read_by_filter(a)), run);
-    is_staged(&rt, list(a, read_by_scalar(0), one()), build);
-}
-
-fn holds(alloc: Global, query: Rel, due: &str) -> bool {
-    is_held(alloc, &query, due)
+    let at_build = Asked::Staged(Err(StageError::RunScopeAtBuild));
+    is_made_so(&rt, a, read_by_scalar(0), at_build);
+    is_made_so(
+        &rt,
+        a,
+        crossed(a, listed(a, one()), read_by_scalar(0)),
+        at_build,
+    );
+    is_made_so(&rt, a, list(a, read_by_scalar(0), one()), at_build);
+    let at_run = Asked::Staged(Err(StageError::BuildScopeAtRun));
+    is_made_so(&rt, a, read_by_filter(a), at_run);
+    is_made_so(
+        &rt,
+        a,
+        crossed(a, joined(a, one()), read_by_filter(a)),
+        at_run,
+    );
 }
 
 #[test]
@@ -103,8 +103,6 @@ fn the_innermost_row_of_a_number_is_held(rt: HostRuntime) {
     let a = rt.alloc();
     // For each step a list of its second number.
     let inner = list(a, read_by_scalar(1), read_by_scalar(0));
-    match list(a, Ok(Rel::Table(4)), inner) {
-        Ok(query) => assert!(rt; holds(a, query, "[ [ 5] [ 7] [ 4]]")),
-        Err(why) => assert!(rt; false, "{why:?}"),
-    }
+    let query = list(a, Ok(Rel::Table(4)), inner);
+    is_made_so(&rt, a, query, Asked::Holds("[ [ 5] [ 7] [ 4]]"));
 }

@@ -24,11 +24,12 @@ void *__libc_malloc(size_t size);
 void *__libc_realloc(void *place, size_t size);
 
 static unsigned long calls;
+static int has_ended;
 
 static int fails(void)
 {
     const char *number = getenv("FAILING_ALLOCATION");
-    return ++calls == (number ? strtoul(number, 0, 10) : 0);
+    return !has_ended && ++calls == (number ? strtoul(number, 0, 10) : 0);
 }
 
 void *malloc(size_t size)
@@ -44,10 +45,10 @@ void *realloc(void *place, size_t size)
 /* What the run met, for the script to know where to end. */
 __attribute__((destructor)) static void tell(void)
 {
-    unsigned long met = calls;
+    has_ended = 1;
     FILE *file = fopen("met", "w");
     if (file) {
-        fprintf(file, "%lu\n", met);
+        fprintf(file, "%lu\n", calls);
         fclose(file);
     }
 }
@@ -69,6 +70,7 @@ in_words=0
 point=1
 while :; do
     status=0
+    rm -f met
     FAILING_ALLOCATION=$point LD_PRELOAD=$folder/failing.so "$castor" $(cat "$stored/args") \
         <"$stored/stdin" >out 2>err || status=$?
     if [ "$(cat met)" -lt "$point" ]; then

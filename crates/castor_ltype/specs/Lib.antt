@@ -1,0 +1,4 @@
+pub mod Generation
+pub mod Places
+pub mod Ranges
+pub mod Sizes

@@ -16,8 +16,3 @@ mod sizes;
 
 pub use generation::generate;
 
-#[cfg(test)]
-mod scratch {
-    #[test]
-    fn nothing_yet() {}
-}

@@ -7,7 +7,7 @@ use Rattle.castor_alg.specs.declared.held.Held.{Held}
 use Rattle.castor_alg.specs.declared.rel.Agg.{Agg}
 use Rattle.castor_alg.specs.declared.rel.Bound.{Bound}
 use Rattle.castor_alg.specs.declared.rel.Key.{Key}
-use Rattle.castor_alg.specs.declared.rel.Rel.{Rel, fold-Rel}
+use Rattle.castor_alg.specs.declared.rel.Rel.{Rel}
 use Rattle.castor_alg.specs.declared.rel.Rel as R
 use Rattle.castor_alg.specs.declared.rel.Rel.TheOpen as F
 use Rattle.castor_alg.specs.Typing.{RelTyping, column_types_step, extended, type_under, types_under}
@@ -16,11 +16,8 @@ use Rattle.castor_code.specs.declared.code.Code.{Code}
 use Rattle.castor_code.specs.declared.code.Code as C
 use Rattle.castor_code.specs.LayoutMeaning.{all_in}
 use Rattle.castor_code.specs.Shapes.{leaf_of}
-use Rattle.castor_ltype.specs.Generation.{Generator, code_over, generator_step, hash_code, list_code, ord_code, part_codes, scalar_code}
+use Rattle.castor_ltype.specs.Generation.{Generator, code_over, generator, generator_step, hash_code, list_code, ord_code, part_codes, scalar_code}
 use Rattle.castor_ltype.specs.Places.{inner, part}
-
-abbrev pub generator : Rel → Generator
-generator q = fold-Rel Generator generator_step q
 
 abbrev types_in : Generator → RelTyping
 types_in g = g.types
@@ -56,7 +53,7 @@ abbrev pub codes_of_parts : ℕ → List Rel → Context → List Held → List 
 codes_of_parts i [] context hs = []
 codes_of_parts i (r ∷ rs) context hs = code_over r context (map (part i) hs) ∷ codes_of_parts (i + 1) rs context hs
 
-part_codes-are : (i : ℕ) (rs : List Rel) (context : Context) (hs : List Held) → part_codes i (map generator rs) context hs ≡ codes_of_parts i rs context hs
+pub part_codes-are : (i : ℕ) (rs : List Rel) (context : Context) (hs : List Held) → part_codes i (map generator rs) context hs ≡ codes_of_parts i rs context hs
 part_codes-are i [] context hs = refl
 part_codes-are i (r ∷ rs) context hs = ap (λ cs. code_over r context (map (part i) hs) ∷ cs) (part_codes-are (i + 1) rs context hs)
 

@@ -170,7 +170,7 @@ query_means = rel_induction MeansIt record {
       meant_by _ _ _ _ asked p _ (code-List context hs k r s) held
       (layout-List asked p _ _ _ _
       ∙ list_means (λ a. held_under s ts (bind known k a) run v) (λ h. layout_meaning _ h asked p) (λ a. meaning s ts (bind env k a) p)
-        (body_means s y scopes env known asked run ts p v k _ _ (both_right _ _ parts) place) (meaning r ts known v) (clean_by _ _ held none)
+      (body_means s y scopes env known asked run ts p v k _ _ (both_right _ _ parts) place) (meaning r ts known v) (clean_by _ _ held none)
       ∙ ap (depjoined (λ a. meaning s ts (bind env k a) p)) source ∙ sym (meaning-List ts env p k r s));
   hash = λ k r s es x y scopes env known asked run ts p v context hs staged place none.
       let parts = sym (ap (here Run scopes) (fold-Hash Staging stage_step k r s es)) ∙ staged in
@@ -180,7 +180,7 @@ query_means = rel_induction MeansIt record {
       meant_by _ _ _ _ asked p _ (code-Hash context hs k r s es) held
       (layout-Hash asked p _ _ _ _ es _
       ∙ hash_means (λ a. held_under s ts (bind known k a) run v) (layout_meaning _) asked p (λ a. meaning s ts (bind env k a) p)
-        (body_means s y scopes env known asked run ts p v k _ _ (both_right _ _ (both_right _ _ parts)) place) (meaning r ts known v) (expr_values es [] asked p) (clean_by _ _ held none)
+      (body_means s y scopes env known asked run ts p v k _ _ (both_right _ _ (both_right _ _ parts)) place) (meaning r ts known v) (expr_values es [] asked p) (clean_by _ _ held none)
       ∙ (λ i. hashed (λ a. meaning s ts (bind env k a) p) (source i) (keys i)) ∙ sym (meaning-Hash ts env p k r s es));
   ordered = λ k r s lo hi x y scopes env known asked run ts p v context hs staged place none.
       let parts = sym (ap (here Run scopes) (fold-Ord Staging stage_step k r s lo hi)) ∙ staged in
@@ -192,6 +192,6 @@ query_means = rel_induction MeansIt record {
       meant_by _ _ _ _ asked p _ (code-Ord context hs k r s lo hi) held
       (layout-Ord asked p _ _ _ _ lo hi _
       ∙ ord_means (λ a. held_under s ts (bind known k a) run v) (layout_meaning _) asked p (λ a. meaning s ts (bind env k a) p)
-        (body_means s y scopes env known asked run ts p v k _ _ behind place) (meaning r ts known v) (lower lo asked p) (upper hi asked p) (clean_by _ _ held none)
+      (body_means s y scopes env known asked run ts p v k _ _ behind place) (meaning r ts known v) (lower lo asked p) (upper hi asked p) (clean_by _ _ held none)
       ∙ (λ i. ranged (λ a. meaning s ts (bind env k a) p) (source i) (from i) (to i)) ∙ sym (meaning-Ord ts env p k r s lo hi));
 }

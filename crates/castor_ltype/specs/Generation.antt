@@ -115,9 +115,12 @@ generator_step layer = record {
   code = code_step layer;
 }
 
+abbrev pub generator : Rel → Generator
+generator q = fold-Rel Generator generator_step q
+
 -- the code of a relation for all that is held at one place, under the context there
 abbrev pub code_over : Rel → Generating
-code_over q = (fold-Rel Generator generator_step q).code
+code_over q = (generator q).code
 
 -- the code of a query for what is held for it
 abbrev pub code_for : Rel → Context → Held → Code

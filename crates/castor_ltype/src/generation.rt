@@ -2,6 +2,7 @@
 
 ghost use Rattle.std.specs.Prelude.{◌≡◌, IfOk};
 ghost use Rattle.castor_ltype.specs.Generation.{code_for};
+ghost use Rattle.castor_ltype.specs.Places as place;
 
 use crate::laid::Laid;
 use crate::laying::lay;
@@ -26,7 +27,16 @@ pub fn generate(alloc: Global, q: &Rel, held: &Held, types: &Context) -> Result<
 
 fn let_go(_: Held) {}
 
-fn lay_one(alloc: Global, q: &Rel, held: &Held, nothing: &Held, types: &Context) -> Result<Laid, Memory>
+fn lay_one(
+    alloc: Global,
+    q: &Rel,
+    held: &Held,
+    nothing: &Held,
+    types: &Context,
+) -> Result<Laid, Memory>
+    requires { nothing.now ≡ place.nothing }
+    ensures { IfOk result (λ laid. laid.code ≡ code_for q.now types.now held.now) }
 {
-    lay(alloc, q, &[held], nothing, &TypeEnv::Outer(types))
+    let env = TypeEnv::Outer(types);
+    Ok(lay(alloc, q, &[held], nothing, &env)?)
 }

@@ -1,6 +1,14 @@
 //! Codes of indexes.
 
-ghost use Rattle.std.specs.Prelude.{◌≡◌, IfOk, map};
+ghost use Rattle.std.specs.Prelude.{◌≡◌, ◌+◌, ◌*◌, IfOk, ◌∷◌, [], length, map};
+ghost use Rattle.std.specs.List.{flat_map};
+ghost use Rattle.castor_code.specs.Shapes.{keyed_of};
+ghost use Rattle.castor_code.specs.declared.code.Code as code;
+ghost use Rattle.castor_fixed.specs.Fields.{width};
+ghost use Rattle.castor_ltype.specs.Generation.{body_range, count_range, kids};
+ghost use Rattle.castor_ltype.specs.Places as place;
+ghost use Rattle.castor_ltype.specs.Ranges as range;
+ghost use Rattle.castor_ltype.specs.Sizes as size;
 
 use crate::laid::{Laid, LaidParts};
 use crate::places::entries_of;
@@ -10,16 +18,26 @@ use castor_alg::{Bound, Expr, Held, both, boxed, copy_bound, copy_exprs};
 use castor_code::{Code, Range};
 use castor_dir::bucket_count;
 use castor_val::Memory;
-use sqlite_items::Items;
 use std::alloc::Global;
 
 /// The code of hash indexes, over those of the columns of all their keys and of all their children.
-pub fn hash(alloc: Global, held: &[&Held], key: LaidParts, kid: Laid, by: &[Expr]) -> Result<Laid, Memory>
+pub fn hash(
+    alloc: Global,
+    held: &[&Held],
+    key: LaidParts,
+    kid: Laid,
+    by: &[Expr],
+) -> Result<Laid, Memory>
+    requires keys { key.sizes.items ≡ map (size.key_size 0 key.codes) (flat_map place.entries (map (λ h. h.now) held.now)) }
+    requires kids { kid.sizes.items ≡ map (size.held_size kid.code) (kids (flat_map place.entries (map (λ h. h.now) held.now))) }
+    ensures code { IfOk result (λ laid. laid.code ≡ code.Hash (count_range (map (λ h. h.now) held.now)) (body_range key.codes kid.code (map (λ h. h.now) held.now)) key.codes kid.code by.now) }
+    ensures sizes { IfOk result (λ laid. laid.sizes.items ≡ map (size.held_size laid.code) (map (λ h. h.now) held.now)) }
 {
     let LaidParts { codes, sizes: keys } = key;
     let Laid { code, sizes: kids } = kid;
     let ranges = index_ranges(alloc, held, keys.as_slice(), kids.as_slice())?;
-    let sizes = hash_sizes(alloc, held, &ranges)?;
+    let frames = hash_frames(alloc, held, ranges.count, ranges.body)?;
+    let sizes = added(alloc, frames.as_slice(), ranges.bodies.as_slice())?;
     let (by, kid) = both(copy_exprs(alloc, by), boxed(alloc, Ok(code)))?;
     Ok(Laid {
         code: Code::Hash {
@@ -42,11 +60,19 @@ pub fn ord(
     lo: &Bound,
     hi: &Bound,
 ) -> Result<Laid, Memory>
+    requires keys { key.sizes.items ≡ map (size.key_size 0 (key.code ∷ [])) (flat_map place.entries (map (λ h. h.now) held.now)) }
+    requires kids { kid.sizes.items ≡ map (size.held_size kid.code) (kids (flat_map place.entries (map (λ h. h.now) held.now))) }
+    ensures code { IfOk result (λ laid. laid.code ≡ code.Ord (count_range (map (λ h. h.now) held.now)) (body_range (key.code ∷ []) kid.code (map (λ h. h.now) held.now)) key.code kid.code lo.now hi.now) }
+    ensures sizes { IfOk result (λ laid. laid.sizes.items ≡ map (size.held_size laid.code) (map (λ h. h.now) held.now)) }
 {
-    let Laid { code: key, sizes: keys } = key;
+    let Laid {
+        code: key,
+        sizes: keys,
+    } = key;
     let Laid { code, sizes: kids } = kid;
     let ranges = index_ranges(alloc, held, keys.as_slice(), kids.as_slice())?;
-    let sizes = ord_sizes(alloc, held, &ranges)?;
+    let frames = ord_frames(alloc, held, ranges.count, ranges.body)?;
+    let sizes = added(alloc, frames.as_slice(), ranges.bodies.as_slice())?;
     let bounds = both(copy_bound(alloc, lo), copy_bound(alloc, hi));
     let kids = both(boxed(alloc, Ok(key)), boxed(alloc, Ok(code)));
     let ((lo, hi), (key, kid)) = both(bounds, kids)?;
@@ -71,7 +97,16 @@ struct IndexRanges {
     bodies: Vec<u64>,
 }
 
-fn index_ranges(alloc: Global, held: &[&Held], keys: &[u64], kids: &[u64]) -> Result<IndexRanges, Memory>
+// `keys` and `kids` are the sizes of the keys of all entries and of what stands under them.
+fn index_ranges(
+    alloc: Global,
+    held: &[&Held],
+    keys: &[u64],
+    kids: &[u64],
+) -> Result<IndexRanges, Memory>
+    ensures count { IfOk result (λ ranges. ranges.count ≡ count_range (map (λ h. h.now) held.now)) }
+    ensures bodies { IfOk result (λ ranges. ranges.bodies.items ≡ size.sums (map (λ h. length (place.entries h)) (map (λ h. h.now) held.now)) (size.added keys.now kids.now)) }
+    ensures body { IfOk result (λ ranges. ranges.body ≡ range.least_range ranges.bodies.items) }
 {
     let counts = entry_counts(alloc, held)?;
     let sizes = added(alloc, keys, kids)?;
@@ -84,6 +119,7 @@ fn index_ranges(alloc: Global, held: &[&Held], keys: &[u64], kids: &[u64]) -> Re
 }
 
 fn entry_counts(alloc: Global, held: &[&Held]) -> Result<Vec<u64>, Memory>
+    ensures { IfOk result (λ counts. counts.items ≡ map (λ h. length (place.entries h)) (map (λ h. h.now) held.now)) }
 {
     let mut counts = Vec::new(alloc);
     for h in held {
@@ -92,61 +128,61 @@ fn entry_counts(alloc: Global, held: &[&Held]) -> Result<Vec<u64>, Memory>
     Ok(counts)
 }
 
-fn hash_sizes(alloc: Global, held: &[&Held], ranges: &IndexRanges) -> Result<Vec<u64>, Memory>
+fn hash_frames(alloc: Global, held: &[&Held], count: Range, body: Range) -> Result<Vec<u64>, Memory>
+    ensures { IfOk result (λ frames. frames.items ≡ map (λ h. size.hash_frame count body (keyed_of h)) (map (λ h. h.now) held.now)) }
 {
-    let mut sizes = Vec::new(alloc);
-    for (h, body) in held.iter().zip(ranges.bodies.as_slice()) {
-        sizes.push(hash_size(h, ranges.count, ranges.body, *body)?)?;
+    let mut frames = Vec::new(alloc);
+    for h in held {
+        frames.push(hash_frame(h, count, body)?)?;
     }
-    Ok(sizes)
+    Ok(frames)
 }
 
-// The bytes of the ranges, of one offset more than there are buckets, and of the entries, where an
-// index stands.
-fn hash_size(held: &Held, count: Range, body: Range, bytes: u64) -> Result<u64, Memory>
+// The bytes of the ranges and of one offset more than there are buckets, where an index stands.
+fn hash_frame(held: &Held, count: Range, body: Range) -> Result<u64, Memory>
+    ensures { IfOk result (λ bytes. bytes ≡ size.hash_frame count body (keyed_of held.now)) }
 {
     match held {
         Held::Leaf(_) => Ok(0),
         Held::Parts(_) => Ok(0),
         Held::Rows(_) => Ok(0),
         Held::Keyed(entries) => {
-            let offsets = bucket_count(entries.as_slice().len() as u64) + 1;
-            Ok(index_size(count, body, offsets, bytes)?)
+            let buckets = bucket_count(entries.as_slice().len() as u64);
+            Ok(frame(count, body, buckets + 1)?)
         }
         Held::Inner(_) => Ok(0),
     }
 }
 
-fn ord_sizes(alloc: Global, held: &[&Held], ranges: &IndexRanges) -> Result<Vec<u64>, Memory>
+fn ord_frames(alloc: Global, held: &[&Held], count: Range, body: Range) -> Result<Vec<u64>, Memory>
+    ensures { IfOk result (λ frames. frames.items ≡ map (λ h. size.ord_frame count body (keyed_of h)) (map (λ h. h.now) held.now)) }
 {
-    let mut sizes = Vec::new(alloc);
-    for (h, body) in held.iter().zip(ranges.bodies.as_slice()) {
-        sizes.push(ord_size(h, ranges.count, ranges.body, *body)?)?;
+    let mut frames = Vec::new(alloc);
+    for h in held {
+        frames.push(ord_frame(h, count, body)?)?;
     }
-    Ok(sizes)
+    Ok(frames)
 }
 
-// The bytes of the ranges, of one offset for each entry, and of the entries, where an index stands.
-fn ord_size(held: &Held, count: Range, body: Range, bytes: u64) -> Result<u64, Memory>
+// The bytes of the ranges and of one offset for each entry, where an index stands.
+fn ord_frame(held: &Held, count: Range, body: Range) -> Result<u64, Memory>
+    ensures { IfOk result (λ bytes. bytes ≡ size.ord_frame count body (keyed_of held.now)) }
 {
     match held {
         Held::Leaf(_) => Ok(0),
         Held::Parts(_) => Ok(0),
         Held::Rows(_) => Ok(0),
-        Held::Keyed(entries) => {
-            let offsets = entries.as_slice().len() as u64;
-            Ok(index_size(count, body, offsets, bytes)?)
-        }
+        Held::Keyed(entries) => Ok(frame(count, body, entries.as_slice().len() as u64)?),
         Held::Inner(_) => Ok(0),
     }
 }
 
-// The bytes of the ranges, of so many offsets, and of the entries.
-fn index_size(count: Range, body: Range, offsets: u64, bytes: u64) -> Result<u64, Memory>
+// The bytes of the ranges and of so many offsets.
+fn frame(count: Range, body: Range, offsets: u64) -> Result<u64, Memory>
+    ensures { IfOk result (λ bytes. bytes ≡ (size.range_bytes count + size.range_bytes body) + offsets * width body.hi) }
 {
-    let ranges = sum_of(range_width(count), range_width(body))?;
     match offsets.checked_mul(field_width(body.hi)) {
-        Some(directory) => Ok(sum_of(ranges, sum_of(directory, bytes)?)?),
+        Some(directory) => Ok(sum_of(range_width(count) + range_width(body), directory)?),
         None => Err(Memory),
     }
 }

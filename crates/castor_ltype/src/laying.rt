@@ -1,10 +1,13 @@
 //! Codes for what is held, place by place.
 
-ghost use Rattle.std.specs.Prelude.{◌≡◌, IfOk, map};
+ghost use Rattle.std.specs.Prelude.{◌≡◌, IfOk, IsOkAnd, [], map};
 ghost use Rattle.castor_alg.specs.TypeEnvs.{context_of};
+ghost use Rattle.castor_alg.specs.Typing.{extended, types_under};
+ghost use Rattle.castor_code.specs.LayoutMeaning.{all_in};
+ghost use Rattle.castor_code.specs.declared.code.Code as code;
 ghost use Rattle.castor_ltype.specs.Generation as generation;
 ghost use Rattle.castor_ltype.specs.Places as place;
-ghost use Rattle.castor_ltype.specs.Sizes.{IsLaid};
+ghost use Rattle.castor_ltype.specs.Sizes.{IsLaid, added, parts_size};
 
 use crate::indexes::{hash, ord};
 use crate::keys::{key_columns, with_part};
@@ -76,26 +79,47 @@ pub fn lay<'a>(
         }
         Rel::Hash(k, r, s, es) => {
             let columns = columns(alloc, r.get(), env)?;
-            Ok(lay_hash(alloc, *k, columns.as_slice(), s.get(), es.as_slice(), held, nothing, &*env)?)
+            Ok(lay_hash(
+                alloc,
+                *k,
+                columns.as_slice(),
+                s.get(),
+                es.as_slice(),
+                held,
+                nothing,
+                &*env,
+            )?)
         }
         Rel::Ord(k, r, s, lo, hi) => {
             let columns = columns(alloc, r.get(), env)?;
-            Ok(lay_ord(alloc, *k, columns.as_slice(), s.get(), lo, hi, held, nothing, &*env)?)
+            Ok(lay_ord(
+                alloc,
+                *k,
+                columns.as_slice(),
+                s.get(),
+                lo,
+                hi,
+                held,
+                nothing,
+                &*env,
+            )?)
         }
     }
 }
 
 // What stands where no data is held: a table and a join.
 fn no_code(alloc: Global, held: &[&Held]) -> Result<Laid, Memory>
+    ensures { IfOk result (IsLaid (code.Cross []) (map (λ h. h.now) held.now)) }
 {
     Ok(Laid {
         code: Code::Cross(Items::new(alloc)),
-        sizes: no_sizes(alloc, held.len())?,
+        sizes: no_sizes(alloc, held)?,
     })
 }
 
 // The column types of a source, and none where it isn't well typed.
 fn columns(alloc: Global, r: &Rel, env: &TypeEnv<'_>) -> Result<Vec<Ty>, Memory>
+    ensures { IfOk result (λ types. types.items ≡ all_in (types_under r.now (context_of env.now))) }
 {
     match types_in(alloc, r, env) {
         Ok(types) => Ok(types),
@@ -113,6 +137,8 @@ fn lay_inner<'a>(
     nothing: &'a Held,
     env: &TypeEnv<'_>,
 ) -> Result<Laid, Memory>
+    requires { nothing.now ≡ place.nothing }
+    ensures { IfOk result (IsLaid (generation.code_over r.now (context_of env.now) (map place.inner (map (λ h. h.now) held.now))) (map place.inner (map (λ h. h.now) held.now))) }
 {
     let kids = inners(alloc, held, nothing)?;
     Ok(lay(alloc, r, kids.as_slice(), nothing, env)?)
@@ -128,6 +154,8 @@ fn lay_part<'a>(
     nothing: &'a Held,
     env: &TypeEnv<'_>,
 ) -> Result<Laid, Memory>
+    requires { nothing.now ≡ place.nothing }
+    ensures { IfOk result (IsLaid (generation.code_over r.now (context_of env.now) (map (place.part at) (map (λ h. h.now) held.now))) (map (place.part at) (map (λ h. h.now) held.now))) }
 {
     let kids = parts(alloc, at, held, nothing)?;
     Ok(lay(alloc, r, kids.as_slice(), nothing, env)?)
@@ -141,14 +169,19 @@ fn lay_parts<'a>(
     nothing: &'a Held,
     env: &TypeEnv<'_>,
 ) -> Result<LaidParts, Memory>
+    requires { nothing.now ≡ place.nothing }
+    ensures codes { IfOk result (λ laid. laid.codes ≡ generation.part_codes 0 (map generation.generator rs.now) (context_of env.now) (map (λ h. h.now) held.now)) }
+    ensures sizes { IfOk result (λ laid. laid.sizes.items ≡ map (parts_size 0 laid.codes) (map (λ h. h.now) held.now)) }
 {
     let mut laid = LaidParts {
         codes: Items::new(alloc),
-        sizes: no_sizes(alloc, held.len())?,
+        sizes: no_sizes(alloc, held)?,
     };
-    for (at, r) in rs.iter().enumerate() {
+    let mut at = 0;
+    for r in rs {
         let part = lay_part(alloc, at, r, held, nothing, env)?;
         laid = with_part(alloc, laid, part)?;
+        at += 1;
     }
     Ok(laid)
 }
@@ -164,8 +197,11 @@ fn lay_body<'a, 'e>(
     nothing: &'a Held,
     env: &'e TypeEnv<'e>,
 ) -> Result<Laid, Memory>
+    requires { nothing.now ≡ place.nothing }
+    ensures { IfOk result (IsLaid (generation.code_over s.now (extended (context_of env.now) scope columns.now) (map (λ h. h.now) held.now)) (map (λ h. h.now) held.now)) }
 {
-    lay(alloc, s, held, nothing, &TypeEnv::Bind(scope, columns, env))
+    let inner = TypeEnv::Bind(scope, columns, env);
+    Ok(lay(alloc, s, held, nothing, &inner)?)
 }
 
 // The body of a dependent join, over the second parts.
@@ -179,6 +215,8 @@ fn lay_second<'a, 'e>(
     nothing: &'a Held,
     env: &'e TypeEnv<'e>,
 ) -> Result<Laid, Memory>
+    requires { nothing.now ≡ place.nothing }
+    ensures { IfOk result (IsLaid (generation.code_over s.now (extended (context_of env.now) scope columns.now) (map (place.part 1) (map (λ h. h.now) held.now))) (map (place.part 1) (map (λ h. h.now) held.now))) }
 {
     let kids = parts(alloc, 1, held, nothing)?;
     Ok(lay_body(alloc, scope, columns, s, kids.as_slice(), nothing, env)?)
@@ -191,6 +229,8 @@ fn joined(
     first: Result<Laid, Memory>,
     second: Result<Laid, Memory>,
 ) -> Result<Laid, Memory>
+    ensures code { IfOk result (λ laid. IsOkAnd first (λ x. IsOkAnd second (λ y. laid.code ≡ code.Dep scope x.code y.code))) }
+    ensures sizes { IfOk result (λ laid. IsOkAnd first (λ x. IsOkAnd second (λ y. laid.sizes.items ≡ added x.sizes.items y.sizes.items))) }
 {
     let (first, second) = castor_alg::both(first, second)?;
     Ok(pair(alloc, scope, first, second)?)
@@ -206,6 +246,8 @@ fn lay_list<'a, 'e>(
     nothing: &'a Held,
     env: &'e TypeEnv<'e>,
 ) -> Result<Laid, Memory>
+    requires { nothing.now ≡ place.nothing }
+    ensures { IfOk result (IsLaid (generation.list_code (generation.code_over s.now (extended (context_of env.now) scope columns.now)) (map (λ h. h.now) held.now)) (map (λ h. h.now) held.now)) }
 {
     let all = children(alloc, held)?;
     let kid = lay_body(alloc, scope, columns, s, all.as_slice(), nothing, env)?;
@@ -223,6 +265,8 @@ fn lay_hash<'a, 'e>(
     nothing: &'a Held,
     env: &'e TypeEnv<'e>,
 ) -> Result<Laid, Memory>
+    requires { nothing.now ≡ place.nothing }
+    ensures { IfOk result (IsLaid (generation.hash_code columns.now (generation.code_over s.now (extended (context_of env.now) scope columns.now)) by.now (map (λ h. h.now) held.now)) (map (λ h. h.now) held.now)) }
 {
     let all = entries(alloc, held)?;
     let kid = lay_under_keys(alloc, scope, columns, s, all.as_slice(), nothing, env)?;
@@ -242,6 +286,8 @@ fn lay_ord<'a, 'e>(
     nothing: &'a Held,
     env: &'e TypeEnv<'e>,
 ) -> Result<Laid, Memory>
+    requires { nothing.now ≡ place.nothing }
+    ensures { IfOk result (IsLaid (generation.ord_code columns.now (generation.code_over s.now (extended (context_of env.now) scope columns.now)) lo.now hi.now (map (λ h. h.now) held.now)) (map (λ h. h.now) held.now)) }
 {
     let all = entries(alloc, held)?;
     let kid = lay_under_keys(alloc, scope, columns, s, all.as_slice(), nothing, env)?;
@@ -261,6 +307,8 @@ fn lay_under_keys<'a, 'e>(
     nothing: &'a Held,
     env: &'e TypeEnv<'e>,
 ) -> Result<Laid, Memory>
+    requires { nothing.now ≡ place.nothing }
+    ensures { IfOk result (IsLaid (generation.code_over s.now (extended (context_of env.now) scope columns.now) (generation.kids (map (λ e. e.now) all.now))) (generation.kids (map (λ e. e.now) all.now))) }
 {
     let under = kids(alloc, all)?;
     Ok(lay_body(alloc, scope, columns, s, under.as_slice(), nothing, env)?)

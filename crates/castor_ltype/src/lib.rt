@@ -15,4 +15,3 @@ mod scalars;
 mod sizes;
 
 pub use generation::generate;
-

@@ -2,14 +2,15 @@
 
 ghost use Rattle.std.specs.Prelude.{◌≡◌, IfOk, length, map};
 ghost use Rattle.std.specs.List.{flat_map};
+ghost use Rattle.castor_code.specs.Shapes.{rows_of};
 ghost use Rattle.castor_ltype.specs.Generation.{list_code};
 ghost use Rattle.castor_ltype.specs.Places as place;
-ghost use Rattle.castor_ltype.specs.Sizes.{IsLaid, held_size};
+ghost use Rattle.castor_ltype.specs.Sizes.{IsLaid, held_size, list_frame};
 
 use crate::laid::Laid;
 use crate::places::children_of;
 use crate::ranges::{least_range, range_width};
-use crate::sizes::{sum_of, sums};
+use crate::sizes::{added, sums};
 use castor_alg::{Held, boxed};
 use castor_code::{Code, Range};
 use castor_val::Memory;
@@ -25,7 +26,8 @@ pub fn list(alloc: Global, held: &[&Held], kid: Laid) -> Result<Laid, Memory>
     let bodies = sums(alloc, counts.as_slice(), sizes.as_slice())?;
     let count = least_range(counts.as_slice());
     let body = least_range(bodies.as_slice());
-    let sizes = list_sizes(alloc, held, count, body, bodies.as_slice())?;
+    let frames = frames(alloc, held, count, body)?;
+    let sizes = added(alloc, frames.as_slice(), bodies.as_slice())?;
     let kid = boxed(alloc, Ok(code))?;
     Ok(Laid {
         code: Code::List { count, body, kid },
@@ -43,30 +45,25 @@ fn child_counts(alloc: Global, held: &[&Held]) -> Result<Vec<u64>, Memory>
     Ok(counts)
 }
 
-fn list_sizes(
-    alloc: Global,
-    held: &[&Held],
-    count: Range,
-    body: Range,
-    bodies: &[u64],
-) -> Result<Vec<u64>, Memory>
+fn frames(alloc: Global, held: &[&Held], count: Range, body: Range) -> Result<Vec<u64>, Memory>
+    ensures { IfOk result (λ frames. frames.items ≡ map (λ h. list_frame count body (rows_of h)) (map (λ h. h.now) held.now)) }
 {
-    let ranges = sum_of(range_width(count), range_width(body))?;
-    let mut sizes = Vec::new(alloc);
-    for (h, body) in held.iter().zip(bodies) {
-        sizes.push(list_size(h, ranges, *body)?)?;
+    let mut frames = Vec::new(alloc);
+    for h in held {
+        frames.push(frame(h, count, body))?;
     }
-    Ok(sizes)
+    Ok(frames)
 }
 
-// The bytes of the ranges and of the children, where a list stands.
-fn list_size(held: &Held, ranges: u64, body: u64) -> Result<u64, Memory>
+// The bytes of the ranges, where a list stands.
+fn frame(held: &Held, count: Range, body: Range) -> u64
+    ensures { result ≡ list_frame count body (rows_of held.now) }
 {
     match held {
-        Held::Leaf(_) => Ok(0),
-        Held::Parts(_) => Ok(0),
-        Held::Rows(_) => Ok(sum_of(ranges, body)?),
-        Held::Keyed(_) => Ok(0),
-        Held::Inner(_) => Ok(0),
+        Held::Leaf(_) => 0,
+        Held::Parts(_) => 0,
+        Held::Rows(_) => range_width(count) + range_width(body),
+        Held::Keyed(_) => 0,
+        Held::Inner(_) => 0,
     }
 }

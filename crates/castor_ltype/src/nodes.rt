@@ -1,10 +1,10 @@
 //! Nodes of codes over the codes of their kids.
 
-ghost use Rattle.std.specs.Prelude.{◌≡◌, ◌×◌, IfOk, [], ◌∷◌};
+ghost use Rattle.std.specs.Prelude.{◌≡◌, IfOk};
 ghost use Rattle.castor_code.specs.declared.code.Code as code;
 
 use crate::laid::{Laid, LaidParts};
-use castor_alg::{Agg, Expr, Key, boxed, both, copy_expr, copy_exprs};
+use castor_alg::{Agg, Expr, Key, both, boxed, copy_expr, copy_exprs};
 use castor_code::Code;
 use castor_val::Memory;
 use sqlite_items::Items;

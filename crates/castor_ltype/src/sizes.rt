@@ -1,6 +1,6 @@
 //! Numbers of bytes, which are added up as far as 64 bits hold them.
 
-ghost use Rattle.std.specs.Prelude.{◌≡◌, ◌+◌, IfOk, OnOk, length, map};
+ghost use Rattle.std.specs.Prelude.{◌≡◌, ◌+◌, IfOk, drop, map, sum, take};
 ghost use Rattle.castor_ltype.specs.Sizes as size;
 
 use castor_val::Memory;
@@ -16,12 +16,12 @@ pub fn sum_of(a: u64, b: u64) -> Result<u64, Memory>
     }
 }
 
-/// So many sizes of 0.
-pub fn no_sizes(alloc: Global, len: usize) -> Result<Vec<u64>, Memory>
-    ensures length { IfOk result (λ sizes. length sizes.items ≡ len) }
+/// A size of 0 for each thing.
+pub fn no_sizes<T>(alloc: Global, things: &[T]) -> Result<Vec<u64>, Memory>
+    ensures { IfOk result (λ sizes. sizes.items ≡ map (λ thing. 0) things.now) }
 {
     let mut sizes = Vec::new(alloc);
-    for _ in 0..len {
+    for _thing in things {
         sizes.push(0)?;
     }
     Ok(sizes)
@@ -32,8 +32,13 @@ pub fn added(alloc: Global, sizes: &[u64], more: &[u64]) -> Result<Vec<u64>, Mem
     ensures { IfOk result (λ sums. sums.items ≡ size.added sizes.now more.now) }
 {
     let mut sums = Vec::new(alloc);
-    for (one, other) in sizes.iter().zip(more) {
-        sums.push(sum_of(*one, *other)?)?;
+    let mut rest = more;
+    for size in sizes {
+        let [other, behind @ ..] = rest else {
+            return Ok(sums);
+        };
+        sums.push(sum_of(*size, *other)?)?;
+        rest = behind;
     }
     Ok(sums)
 }

@@ -41,7 +41,7 @@ key_size j (c ∷ cs) e = value_size c (key_value j e) + key_size (j + 1) cs e
 abbrev pub added : List ℕ → List ℕ → List ℕ
 added [] ns = []
 added (m ∷ ms) [] = []
-added (m ∷ ms) (n ∷ ns) = m + n ∷ added ms ns
+added (m ∷ ms) (n ∷ ns) = (m + n) ∷ added ms ns
 
 -- the sums of so many numbers, of so many after these, and so on
 abbrev pub sums : List ℕ → List ℕ → List ℕ

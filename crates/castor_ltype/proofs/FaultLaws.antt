@@ -159,9 +159,9 @@ expr_told = expr_induction IsTold record {
   scope = λ k i row env p. ap told (expr_value-Scope row env p k i);
   param = λ i row env p. ap told (expr_value-Param row env p i);
   lit = λ v row env p. ap told (expr_value-Lit row env p v);
-  bin = λ op a b x y row env p. ap told (expr_value-Bin row env p op a b) ∙ sides_told op _ _ (x row env p) (y row env p);
-  not = λ a x row env p. ap told (expr_value-Not row env p a) ∙ negation_told _ (x row env p);
-  cond = λ c a b w x y row env p. ap told (expr_value-If row env p c a b) ∙ choice_told _ _ _ (w row env p) (x row env p) (y row env p);
+  bin = λ op a b x y row env p. ap told (expr_value-Bin row env p op a b) ∙ sides_told op (expr_value a row env p) (expr_value b row env p) (x row env p) (y row env p);
+  not = λ a x row env p. ap told (expr_value-Not row env p a) ∙ negation_told (expr_value a row env p) (x row env p);
+  cond = λ c a b w x y row env p. ap told (expr_value-If row env p c a b) ∙ choice_told (expr_value c row env p) (expr_value a row env p) (expr_value b row env p) (w row env p) (x row env p) (y row env p);
 }
 
 value_at : (answer : Answer) → Told answer → faults_in answer ≡ no_faults → (v : Value) × (answer ≡ Ok v)

@@ -1,7 +1,11 @@
 pub mod BinderLaws
 pub mod FaultLaws
 pub mod GeneratorLaws
+pub mod IndexSizeLaws
 pub mod LayoutLaws
 pub mod MeaningLaws
 pub mod PhaseLaws
+pub mod PieceLaws
+pub mod SizeLaws
 pub mod SortedFilterLaws
+pub mod TypeLaws

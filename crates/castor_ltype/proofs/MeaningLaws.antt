@@ -19,6 +19,7 @@ use Rattle.castor_alg.specs.Meaning.{meaning}
 use Rattle.castor_alg.specs.Rows.{concatenated, crossed, depjoined, faults_in, filtered, selected, single, union_over}
 use Rattle.castor_alg.specs.Scopes.{Scopes, bind, unbound}
 use Rattle.castor_alg.specs.Sorting.{sorted_by}
+use Rattle.castor_alg.specs.Typing.{type_under}
 use Rattle.castor_alg.proofs.RelInduction.{With, relations, rel_induction, fold-Table, fold-Scalar, fold-Cross, fold-Concat, fold-Select, fold-Filter, fold-Join, fold-DepJoin, fold-Group, fold-Order, fold-Dedup, fold-List, fold-Hash, fold-Ord}
 use Rattle.castor_laws.proofs.RelClauseLaws.{meaning-Scalar, meaning-Cross, meaning-Concat, meaning-Select, meaning-Filter, meaning-DepJoin, meaning-Group, meaning-Order, meaning-Dedup, meaning-List, meaning-Hash, meaning-Ord}
 use Rattle.castor_stage.specs.declared.held_out.HeldOut.{HeldOut}
@@ -32,6 +33,7 @@ use Rattle.castor_code.specs.LayoutMeaning.{layout_meaning, over_parts, stored_r
 use Rattle.castor_code.specs.Shapes.{leaf_of}
 use Rattle.castor_code.proofs.ShapeLaws.{leaf_of-Leaf}
 use Rattle.castor_ltype.specs.Generation.{code_over}
+use Rattle.castor_ltype.specs.Layouts.{MeansQuery}
 use Rattle.castor_ltype.specs.Places.{part}
 use Rattle.castor_ltype.proofs.BinderLaws.{hash_means, list_means, ord_means}
 use Rattle.castor_ltype.proofs.FaultLaws.{has_value, none_by_test, none_left, none_right}
@@ -109,7 +111,7 @@ query_means = rel_induction MeansIt record {
       let held = holding-Scalar ts known run v e in
       let same = expr_rests e Build scopes known env [] v p part place.at_build tt in
       meant_by _ _ _ _ asked p _ (code-Scalar context hs e) held
-      (scalar_means e known v asked p _ (λ h. layout-scalar asked p h _ _) (clean_by _ _ held none)
+      (scalar_means e known v asked p _ (λ h. layout-scalar asked p h (type_under e [] context) (map leaf_of hs)) (clean_by _ _ held none)
       ∙ ap (λ (answer : Answer). single (put_front answer (Ok []))) same ∙ sym (meaning-Scalar ts env p e));
   cross = λ rs scopes env known asked run ts p v context hs staged place none.
       let parts = sym (ap (here Run scopes) (fold-Cross Staging stage_step (relations rs))) ∙ staged in
@@ -195,3 +197,18 @@ query_means = rel_induction MeansIt record {
       (body_means s y scopes env known asked run ts p v k _ _ behind place) (meaning r ts known v) (lower lo asked p) (upper hi asked p) (clean_by _ _ held none)
       ∙ (λ i. ranged (λ a. meaning s ts (bind env k a) p) (source i) (from i) (to i)) ∙ sym (meaning-Ord ts env p k r s lo hi));
 }
+
+-- the tree that is held, where nothing faults
+tree_is : (out : HeldOut) (held : Held) (t : Bool) → has_faults out.faults ≡ t → (if t then Err out.faults else Ok out.held) ≡ Ok held → (out.faults ≡ no_faults) × (out.held ≡ held)
+tree_is out held true is tree = cc
+tree_is out held false is tree = (none_by_test out.faults is, cc)
+
+pub held_is : (q : Rel) (tables : List Table) (held : Held) → held_data q tables ≡ Ok held → ((held_under q tables unbound unbound []).faults ≡ no_faults) × ((held_under q tables unbound unbound []).held ≡ held)
+held_is q tables held is = let out = held_under q tables unbound unbound [] in tree_is out held (has_faults out.faults) refl is
+
+pub code_means : (q : Rel) (types : Context) (held : Held) → MeansQuery q held (code_over q types (held ∷ []))
+code_means q types held staged tables is params =
+    let tree = held_is q tables held is in
+    let place : Place no_phases unbound unbound unbound = record { at_build = λ k same. refl; at_run = λ k same. refl } in
+    ap (λ (h : Held). layout_meaning (code_over q types (held ∷ [])) h unbound params) (sym tree.1)
+    ∙ query_means q no_phases unbound unbound unbound unbound tables params [] types (held ∷ []) staged place tree.0

@@ -1,5 +1,6 @@
 -- What is computed in a phase rests on the scopes of that phase alone, and at build on no parameter.
-use Rattle.std.proofs.Common.{◌≡◌, ◌∙◌, ℕ, List, [], ◌∷◌, map, refl, sym, ap, Bool, true, false, ◌==◌, if◌then◌else◌, Option, Some, None, Ok, Err, ⊤}
+use Rattle.std.proofs.Common.{◌≡◌, ◌∙◌, ℕ, List, [], ◌∷◌, map, refl, sym, ap, Bool, true, false, ◌==◌, if◌then◌else◌, Option, Some, None, Ok, Err}
+use Rattle.std.specs.Prelude.{⊤}
 use Rattle.std.specs.Ordering.{is_lt, is_le, is_gt, is_ge}
 use Rattle.castor_val.specs.declared.row.Row.{Row}
 use Rattle.castor_val.specs.declared.table.Table.{Table}
@@ -35,7 +36,7 @@ abbrev pub SameParams : Phase → Row → Row → Type 0
 SameParams Build p v = ⊤
 SameParams Run p v = p ≡ v
 
-known_scope : (phase : Phase) (o : Option Phase) → scope_in phase o ≡ Ok tt → o ≡ Some phase
+pub known_scope : (phase : Phase) (o : Option Phase) → scope_in phase o ≡ Ok tt → o ≡ Some phase
 known_scope Build None h = cc
 known_scope Build (Some Build) h = refl
 known_scope Build (Some Run) h = cc

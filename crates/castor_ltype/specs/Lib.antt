@@ -1,4 +1,5 @@
 pub mod Generation
+pub mod Layouts
 pub mod Places
 pub mod Ranges
 pub mod Sizes

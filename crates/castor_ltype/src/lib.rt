@@ -2,6 +2,7 @@
 #![tactic(auto)]
 
 pub mod generation;
+pub mod probe;
 mod indexes;
 mod keys;
 pub mod laid;

@@ -1,11 +1,16 @@
 pub mod BinderLaws
+pub mod CompletedLaws
 pub mod FaultLaws
+pub mod FitLaws
 pub mod GeneratorLaws
+pub mod IndexFitLaws
 pub mod IndexSizeLaws
+pub mod LaidLaws
 pub mod LayoutLaws
 pub mod MeaningLaws
 pub mod PhaseLaws
 pub mod PieceLaws
+pub mod RangeLaws
 pub mod SizeLaws
 pub mod SortedFilterLaws
 pub mod TypeLaws

@@ -2,7 +2,6 @@
 #![tactic(auto)]
 
 pub mod generation;
-pub mod probe;
 mod indexes;
 mod keys;
 pub mod laid;

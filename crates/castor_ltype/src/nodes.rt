@@ -12,7 +12,7 @@ use std::alloc::Global;
 
 pub fn cross(parts: LaidParts) -> Laid
     ensures code { result.code ≡ code.Cross parts.codes }
-    ensures sizes { result.sizes ≡ parts.sizes }
+    ensures sizes { result.sizes.items ≡ parts.sizes.items }
 {
     let LaidParts { codes, sizes } = parts;
     Laid {
@@ -23,7 +23,7 @@ pub fn cross(parts: LaidParts) -> Laid
 
 pub fn concat(parts: LaidParts) -> Laid
     ensures code { result.code ≡ code.Concat parts.codes }
-    ensures sizes { result.sizes ≡ parts.sizes }
+    ensures sizes { result.sizes.items ≡ parts.sizes.items }
 {
     let LaidParts { codes, sizes } = parts;
     Laid {
@@ -34,7 +34,7 @@ pub fn concat(parts: LaidParts) -> Laid
 
 pub fn select(alloc: Global, es: &[Expr], kid: Laid) -> Result<Laid, Memory>
     ensures code { IfOk result (λ laid. laid.code ≡ code.Select es.now kid.code) }
-    ensures sizes { IfOk result (λ laid. laid.sizes ≡ kid.sizes) }
+    ensures sizes { IfOk result (λ laid. laid.sizes.items ≡ kid.sizes.items) }
 {
     let Laid { code, sizes } = kid;
     let (es, kid) = both(copy_exprs(alloc, es), boxed(alloc, Ok(code)))?;
@@ -46,7 +46,7 @@ pub fn select(alloc: Global, es: &[Expr], kid: Laid) -> Result<Laid, Memory>
 
 pub fn filter(alloc: Global, e: &Expr, kid: Laid) -> Result<Laid, Memory>
     ensures code { IfOk result (λ laid. laid.code ≡ code.Filter e.now kid.code) }
-    ensures sizes { IfOk result (λ laid. laid.sizes ≡ kid.sizes) }
+    ensures sizes { IfOk result (λ laid. laid.sizes.items ≡ kid.sizes.items) }
 {
     let Laid { code, sizes } = kid;
     let (e, kid) = both(copy_expr(alloc, e), boxed(alloc, Ok(code)))?;
@@ -58,7 +58,7 @@ pub fn filter(alloc: Global, e: &Expr, kid: Laid) -> Result<Laid, Memory>
 
 pub fn group(alloc: Global, ks: &[u32], aggs: &[Agg], kid: Laid) -> Result<Laid, Memory>
     ensures code { IfOk result (λ laid. laid.code ≡ code.Group ks.now aggs.now kid.code) }
-    ensures sizes { IfOk result (λ laid. laid.sizes ≡ kid.sizes) }
+    ensures sizes { IfOk result (λ laid. laid.sizes.items ≡ kid.sizes.items) }
 {
     let Laid { code, sizes } = kid;
     let kid = boxed(alloc, Ok(code));
@@ -71,7 +71,7 @@ pub fn group(alloc: Global, ks: &[u32], aggs: &[Agg], kid: Laid) -> Result<Laid,
 
 pub fn order(alloc: Global, ks: &[Key], kid: Laid) -> Result<Laid, Memory>
     ensures code { IfOk result (λ laid. laid.code ≡ code.Order ks.now kid.code) }
-    ensures sizes { IfOk result (λ laid. laid.sizes ≡ kid.sizes) }
+    ensures sizes { IfOk result (λ laid. laid.sizes.items ≡ kid.sizes.items) }
 {
     let Laid { code, sizes } = kid;
     let (ks, kid) = both(copy_items(alloc, ks), boxed(alloc, Ok(code)))?;
@@ -83,7 +83,7 @@ pub fn order(alloc: Global, ks: &[Key], kid: Laid) -> Result<Laid, Memory>
 
 pub fn dedup(alloc: Global, kid: Laid) -> Result<Laid, Memory>
     ensures code { IfOk result (λ laid. laid.code ≡ code.Dedup kid.code) }
-    ensures sizes { IfOk result (λ laid. laid.sizes ≡ kid.sizes) }
+    ensures sizes { IfOk result (λ laid. laid.sizes.items ≡ kid.sizes.items) }
 {
     let Laid { code, sizes } = kid;
     Ok(Laid {
@@ -101,7 +101,7 @@ pub fn dep(
     sizes: Vec<u64>,
 ) -> Result<Laid, Memory>
     ensures code { IfOk result (λ laid. laid.code ≡ code.Dep scope first second) }
-    ensures sizes { IfOk result (λ laid. laid.sizes ≡ sizes) }
+    ensures sizes { IfOk result (λ laid. laid.sizes.items ≡ sizes.items) }
 {
     let (first, second) = both(boxed(alloc, Ok(first)), boxed(alloc, Ok(second)))?;
     Ok(Laid {

@@ -1,6 +1,6 @@
 //! What stands at the places below a place.
 
-ghost use Rattle.std.specs.Prelude.{◌≡◌, IfOk, map, length};
+ghost use Rattle.std.specs.Prelude.{◌≡◌, ◌++◌, IfOk, OnOk, map};
 ghost use Rattle.std.specs.List.{flat_map};
 ghost use Rattle.std.specs.Option.{option_map};
 ghost use Rattle.castor_val.specs.Values.{value_of};
@@ -97,15 +97,22 @@ fn inner<'a>(held: &'a Held, nothing: &'a Held) -> &'a Held
     }
 }
 
+fn push_each<'a, T>(all: &mut Vec<&'a T>, more: &'a [T]) -> Result<(), Memory>
+    ensures { OnOk result (map (λ thing. thing.now) all.new.items ≡ map (λ thing. thing.now) all.old.items ++ more.now) }
+{
+    for thing in more {
+        all.push(thing)?;
+    }
+    Ok(())
+}
+
 /// All children of all lists.
 pub fn children<'a>(alloc: Global, held: &[&'a Held]) -> Result<Vec<&'a Held>, Memory>
     ensures { IfOk result (λ children. map (λ h. h.now) children.items ≡ flat_map place.children (map (λ h. h.now) held.now)) }
 {
     let mut children = Vec::new(alloc);
     for h in held {
-        for child in children_of(h) {
-            children.push(child)?;
-        }
+        push_each(&mut children, children_of(h))?;
     }
     Ok(children)
 }
@@ -129,9 +136,7 @@ pub fn entries<'a>(alloc: Global, held: &[&'a Held]) -> Result<Vec<&'a Entry>, M
 {
     let mut entries = Vec::new(alloc);
     for h in held {
-        for entry in entries_of(h) {
-            entries.push(entry)?;
-        }
+        push_each(&mut entries, entries_of(h))?;
     }
     Ok(entries)
 }

@@ -1,6 +1,6 @@
 -- What is computed at build is of its type, whatever rows the scopes have that are known at run.
-use Rattle.std.proofs.Common.{◌≡◌, ◌∙◌, ℕ, pos, List, [], ◌∷◌, map, refl, sym, ap, subst, Bool, true, ◌==◌, if◌then◌else◌, Option, Some, None, Ok}
-use Rattle.std.proofs.lemmas.Bool.{and_from}
+use Rattle.std.proofs.Common.{◌≡◌, ◌∙◌, ℕ, ◌^◌, arith, pos, List, [], ◌∷◌, map, refl, sym, ap, subst, Bool, true, false, ◌==◌, if◌then◌else◌, Option, Some, None, Ok}
+use Rattle.std.proofs.lemmas.Bool.{and_from, lt-ltb}
 use Rattle.castor_val.specs.declared.row.Row.{Row}
 use Rattle.castor_val.specs.declared.table.Table.{Table}
 use Rattle.castor_val.specs.declared.value.Ty.{Ty}
@@ -32,7 +32,7 @@ default_value ty.Bool = Truth true
 default_value ty.Text = Text []
 
 default_fits : (t : Ty) → value_fits (default_value t) t ≡ true
-default_fits ty.Int = refl
+default_fits ty.Int = lt-ltb 0 (2 ^ 63) (omega arith)
 default_fits ty.Bool = refl
 default_fits ty.Text = refl
 

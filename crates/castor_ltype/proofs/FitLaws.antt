@@ -141,8 +141,8 @@ scalar_stands e t scopes context ts staged typed holds clean h so =
     }
 
 pub leaf_clean : (answer : Answer) → (leaf answer).faults ≡ no_faults → faults_in answer ≡ no_faults
-leaf_clean (Ok v) none = none
-leaf_clean (Err f) none = none
+leaf_clean (Ok v) clean = clean
+leaf_clean (Err f) clean = clean
 
 pub scalar_fits : (t : Ty) (hs : List Held) → Each (λ h. Valued t (leaf_of h)) hs → Each (Fine (scalar_code (Some t) (map leaf_of hs))) hs
 scalar_fits t hs all =
@@ -183,11 +183,11 @@ AllStand rs scopes context ts gs = AllZip (λ r g. Stands r scopes context ts g)
 
 all_stand : (rs : List Rel) (scopes : Phases) (context : Context) (ts : List Table) (env run : Scopes) (params : Row) → BuildFits scopes context env → union_over (λ (h : HeldOut). h.faults) (map (λ (r : Rel). held_under r ts env run params) rs) ≡ no_faults
     → AllStand rs scopes context ts (map (λ (h : HeldOut). h.held) (map (λ (r : Rel). held_under r ts env run params) rs))
-all_stand [] scopes context ts env run params known none = tt
-all_stand (r ∷ rs) scopes context ts env run params known none =
+all_stand [] scopes context ts env run params known clean = tt
+all_stand (r ∷ rs) scopes context ts env run params known clean =
     let others = union_over (λ (h : HeldOut). h.faults) (map (λ (r : Rel). held_under r ts env run params) rs) in
     let own = (held_under r ts env run params).faults in
-    (record { env = env; run = run; params = params; is = refl; clean = none_left own others none; known = known }, all_stand rs scopes context ts env run params known (none_right own others none))
+    (record { env = env; run = run; params = params; is = refl; clean = none_left own others clean; known = known }, all_stand rs scopes context ts env run params known (none_right own others clean))
 
 -- the part with a number, and those behind it
 record Next (R : Rel → Held → Type 0) (r : Rel) (rs : List Rel) (i : ℕ) (gs : List Held) : Type 0 where
@@ -211,7 +211,7 @@ parts_in h = all_in (parts_of h)
 operands_fit : (rs : List (With FitsAll)) (i : ℕ) (scopes : Phases) (context : Context) (ts : List Table) (all : List (List Ty)) (hs : List Held) → in_turn (map (λ (r : Staging). r Run scopes) (map stage_under (relations rs))) ≡ Ok tt → tables_fit ts context.tables ≡ true
     → each (map (λ (r : Rel). types_under r context) (relations rs)) ≡ Some all → Each (λ h. AllStand (relations rs) scopes context ts (drop i (parts_in h))) hs
     → Each (λ h. (side_by_side (writing_all (codes_of_parts i (relations rs) context hs)) (drop i (parts_in h))).fits ≡ true) hs
-operands_fit [] i scopes context ts all hs staged tables typed stand = each_weaker _ _ (λ h none. nothing_left (λ r g. Stands r scopes context ts g) (drop i (parts_in h)) none) stand
+operands_fit [] i scopes context ts all hs staged tables typed stand = each_weaker _ _ (λ h zipped. nothing_left (λ r g. Stands r scopes context ts g) (drop i (parts_in h)) zipped) stand
 operands_fit (r ∷ rs) i scopes context ts all hs staged tables typed stand =
     let R = λ (r : Rel) (g : Held). Stands r scopes context ts g in
     let parts = both_parts (λ t ts. t ∷ ts) (types_under r.0 context) (each (map (λ (r : Rel). types_under r context) (relations rs))) all typed in
@@ -298,6 +298,9 @@ module _ (s : Rel) (scopes : Phases) (context : Context) (k : ℕ) (columns : Li
   abbrev pub Child : Held → Type 0
   Child g = Stands s (bind_phase scopes k Build) (extended context k columns) ts g
 
+  abbrev pub EntryStands : Entry → Type 0
+  EntryStands e = (row_fits e.key columns ≡ true) × Child e.kid
+
   module _ (env run : Scopes) (params : Row) (known : BuildFits scopes context env) where
     abbrev hold : Row → HeldOut
     hold a = held_under s ts (bind env k a) run params
@@ -307,17 +310,14 @@ module _ (s : Rel) (scopes : Phases) (context : Context) (k : ℕ) (columns : Li
 
     rows_stand : {rows : List Row} → AllFit columns rows → union_over (λ a. (hold a).faults) rows ≡ no_faults → Each Child (map (λ a. (hold a).held) rows)
     rows_stand none clean = none
-    rows_stand (one {a} {rows} fit rest) clean =
+    rows_stand (one {x = a} {xs = rows} fit rest) clean =
         let others = union_over (λ b. (hold b).faults) rows in
         one (child_stands a fit (none_left (hold a).faults others clean)) (rows_stand rest (none_right (hold a).faults others clean))
 
     -- the entries of an index
-    abbrev pub EntryStands : Entry → Type 0
-    EntryStands e = (row_fits e.key columns ≡ true) × Child e.kid
-
     pub entries_stand : {rows : List Row} → AllFit columns rows → union_over (λ a. (hold a).faults) rows ≡ no_faults → Each EntryStands (map (entry hold) rows)
     entries_stand none clean = none
-    entries_stand (one {a} {rows} fit rest) clean =
+    entries_stand (one {x = a} {xs = rows} fit rest) clean =
         let others = union_over (λ b. (hold b).faults) rows in
         one (fit, child_stands a fit (none_left (hold a).faults others clean)) (entries_stand rest (none_right (hold a).faults others clean))
 

@@ -7,6 +7,7 @@ pub mod IndexFitLaws
 pub mod IndexSizeLaws
 pub mod LaidLaws
 pub mod LayoutLaws
+pub mod LoopLaws
 pub mod MeaningLaws
 pub mod PhaseLaws
 pub mod PieceLaws

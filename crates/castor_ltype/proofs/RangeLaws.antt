@@ -52,7 +52,7 @@ inside lo hi n l h = and_from _ _ (le-leb lo n l) (le-leb n hi h)
 
 all_inside : (lo hi : ℕ) {ns : List ℕ} → Each (λ n. lo ≤ n) ns → Each (λ n. n ≤ hi) ns → Each (λ n. within (record { lo = lo; hi = hi }) n ≡ true) ns
 all_inside lo hi none none = none
-all_inside lo hi (one {n} l ls) (one h hs) = one (inside lo hi n l h) (all_inside lo hi ls hs)
+all_inside lo hi (one {x = n} l ls) (one h hs) = one (inside lo hi n l h) (all_inside lo hi ls hs)
 
 -- each number is within the least range
 pub numbers_within : (ns : List ℕ) → Each (λ n. within (least_range ns) n ≡ true) ns
@@ -120,7 +120,7 @@ ends_rise z zs = chain _ z _ (least_int z zs) (greatest_int z zs)
 
 all_between : (lo hi : ℤ) {zs : List ℤ} → Each (λ z. at_most_int lo z ≡ true) zs → Each (λ z. at_most_int z hi ≡ true) zs → Each (λ z. (at_most_int lo z && at_most_int z hi) ≡ true) zs
 all_between lo hi none none = none
-all_between lo hi (one {z} l ls) (one h hs) = one (and_from _ _ l h) (all_between lo hi ls hs)
+all_between lo hi (one l ls) (one h hs) = one (and_from _ _ l h) (all_between lo hi ls hs)
 
 -- each int is between the ends
 pub ints_within : (zs : List ℤ) → Each (λ z. (int_write zs (Some (Int z))).fits ≡ true) zs

@@ -67,7 +67,6 @@ use Rattle.castor_ltype.proofs.LaidLaws.{int_write, scalar_write, scalar_written
 use Rattle.castor_ltype.proofs.GeneratorLaws.{code-Scalar, code-Cross, code-Concat, code-Select, code-Filter, code-DepJoin, code-Group, code-Order, code-Dedup, code-List, code-Hash, code-Ord, codes_of_parts, source_types}
 use Rattle.castor_ltype.proofs.PieceLaws.{piece-Concat, piece-Cross, piece-Dedup, piece-Dep, piece-Filter, piece-Group, piece-Hash, piece-List, piece-Order, piece-Ord, piece-Select, writing, writing_all}
 use Rattle.castor_ltype.proofs.RangeLaws.{each_both, each_unflat, each_unmap, ints_within, numbers_within}
-
 use Rattle.castor_ltype.proofs.FitLaws.{Child, EntryStands, Fine, FitsAll, Stands, ValueFits, Valued, along_fits, depjoin_fits, entries_stand, fine_by, inner_fits, keys_ascend, leaf_clean, list_fits, numbers_of, parts_fit, scalar_fits, scalar_stands, values_fit}
 use Rattle.castor_ltype.proofs.MeaningLaws.{held_is}
 use Rattle.castor_ltype.proofs.PhaseLaws.{here}
@@ -133,7 +132,7 @@ keys_fit (t ∷ types) j es all =
     each_weaker _ (KeyFits (c ∷ cs) j)
     (λ e both. ap (λ (row : Row). (side_by_side (writing c ∷ writing_all cs) (map Leaf row)).fits) both.0.is
     ∙ and_from _ _ (ap (λ (p : Piece). p.fits) (value_written (Some t) values (Some both.0.value.value)) ∙ ap (λ (o : Option Value). (scalar_write (Some t) values o).fits) (sym both.0.value.is) ∙ both.1.0)
-      (subst (λ n. KeyFits cs n e) (add-one j) both.1.1))
+    (subst (λ n. KeyFits cs n e) (add-one j) both.1.1))
     (each_both (λ (e : Entry). First t types j e.key) Rest firsts (each_both (λ (e : Entry). ValueFits t values (key_value j e)) (KeyFits cs (j + 1)) own rest))
 
 -- the entries of a bucket fit where all do

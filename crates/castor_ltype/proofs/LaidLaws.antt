@@ -124,7 +124,7 @@ module _ (context : Context) (hs : List Held) where
       moved_laid _ _ hs laid (ap over (is ∙ (λ i. R.Ord k (sym rs i) (sym ss i) (sym l i) (sym h i))) ∙ code-Ord context hs k r' s' lo' hi' ∙ ap (λ (ts : List Ty). ord_code ts (code_over s' (extended context k ts)) lo' hi' hs) (sym cols)) so
 
 -- the size of a value, by what leaf there is
-leaf_of-value_held : (o : Option Value) → leaf_of (value_held o) ≡ o
+pub leaf_of-value_held : (o : Option Value) → leaf_of (value_held o) ≡ o
 leaf_of-value_held (Some v) = leaf_of-Leaf v
 leaf_of-value_held None = leaf_of-nothing
 
@@ -176,8 +176,8 @@ pub children_laid : (hs : List Held) (kid : Laid) (counts bodies frames sizes : 
 children_laid hs kid counts bodies frames sizes count body laid kids counted summed counts_are bodies_are framed all code have =
     let write = writing kid.code in
     let along : bodies ≡ map (λ h. length (one_after_other write (children h)).bytes) hs =
-        summed ∙ (λ i. sums (counted i) (kids i)) ∙ sums-along children (held_size kid.code) hs
-        ∙ map-same (λ h. sum (map (held_size kid.code) (children h))) (λ h. length (one_after_other write (children h)).bytes) (λ h. along_size write (children h)) hs in
+    summed ∙ (λ i. sums (counted i) (kids i)) ∙ sums-along children (held_size kid.code) hs
+    ∙ map-same (λ h. sum (map (held_size kid.code) (children h))) (λ h. length (one_after_other write (children h)).bytes) (λ h. along_size write (children h)) hs in
     let ranges : C.List count body kid.code ≡ list_code (λ xs. kid.code) hs = (λ i. C.List ((counts_are ∙ ap least_range counted) i) ((bodies_are ∙ ap least_range along) i) kid.code) in
     record {
       code = code ∙ ranges;

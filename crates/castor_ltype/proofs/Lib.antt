@@ -12,6 +12,7 @@ pub mod MeaningLaws
 pub mod PhaseLaws
 pub mod PieceLaws
 pub mod RangeLaws
+pub mod ScalarLaws
 pub mod SizeLaws
 pub mod SortedFilterLaws
 pub mod TypeLaws

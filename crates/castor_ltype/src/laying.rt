@@ -44,8 +44,14 @@ pub fn lay<'a>(
             let values = leaves(alloc, held)?;
             Ok(scalar(alloc, expr_type_in(e, &[], env), values.as_slice())?)
         }
-        Rel::Cross(rs) => Ok(cross(lay_parts(alloc, rs.as_slice(), held, nothing, env)?)),
-        Rel::Concat(rs) => Ok(concat(lay_parts(alloc, rs.as_slice(), held, nothing, env)?)),
+        Rel::Cross(rs) => {
+            let parts = lay_parts(alloc, rs.as_slice(), held, nothing, env)?;
+            Ok(cross(parts))
+        }
+        Rel::Concat(rs) => {
+            let parts = lay_parts(alloc, rs.as_slice(), held, nothing, env)?;
+            Ok(concat(parts))
+        }
         Rel::Select(es, r) => {
             let kid = lay_inner(alloc, r.get(), held, nothing, env)?;
             Ok(select(alloc, es.as_slice(), kid)?)

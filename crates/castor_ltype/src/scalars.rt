@@ -92,7 +92,8 @@ fn texts(alloc: Global, values: &[Option<Cell>]) -> Result<Laid, Memory>
 {
     let lengths = lengths_in(alloc, values)?;
     let lengths = least_range(lengths.as_slice());
-    let (min, max) = (text_length(lengths.lo)?, text_length(lengths.hi)?);
+    let min = text_length(lengths.lo)?;
+    let max = text_length(lengths.hi)?;
     let width = range_width(lengths);
     let mut sizes = Vec::new(alloc);
     for value in values {

@@ -187,10 +187,36 @@ children_laid hs kid counts bodies frames sizes count body laid kids counted sum
     }
 
 -- the bodies of indexes
-pub entry_bodies : (hs : List Held) (cs : List Code) (c : Code) (keys under counts bodies : List ℕ) → keys ≡ map (key_size 0 cs) (flat_map entries hs) → under ≡ map (held_size c) (kids (flat_map entries hs)) → bodies ≡ sums (map (λ h. length (entries h)) hs) (added keys under)
+pub entry_bodies : (hs : List Held) (cs : List Code) (c : Code) (keys under bodies : List ℕ) → keys ≡ map (key_size 0 cs) (flat_map entries hs) → under ≡ map (held_size c) (kids (flat_map entries hs)) → bodies ≡ sums (map (λ h. length (entries h)) hs) (added keys under)
     → bodies ≡ map (λ h. size (entry_piece (writing_all cs) (writing c)) (entries h)) hs
-entry_bodies hs cs c keys under counts bodies k u b =
+entry_bodies hs cs c keys under bodies k u b =
     let write = entry_piece (writing_all cs) (writing c) in
     b ∙ ap (sums (map (λ h. length (entries h)) hs)) ((λ i. added (k i) (u i)) ∙ entry_sizes cs c (flat_map entries hs))
     ∙ sums-along entries (λ (e : Entry). length (write e).bytes) hs
     ∙ map-same (λ h. sum (map (λ (e : Entry). length (write e).bytes) (entries h))) (λ h. size write (entries h)) (λ h. along_size write (entries h)) hs
+
+module _ (hs : List Held) (cs : List Code) (c : Code) (keys under bodies : List ℕ) (k : keys ≡ map (key_size 0 cs) (flat_map entries hs)) (u : under ≡ map (held_size c) (kids (flat_map entries hs))) (b : bodies ≡ sums (map (λ h. length (entries h)) hs) (added keys under)) where
+  bodies_are : bodies ≡ map (λ h. size (entry_piece (writing_all cs) (writing c)) (entries h)) hs
+  bodies_are = entry_bodies hs cs c keys under bodies k u b
+
+  pub hash_coded : (count body : Range) (by : List Expr) (code : Code) → count ≡ count_range hs → body ≡ least_range bodies → code ≡ C.Hash count body cs c by → code ≡ C.Hash (count_range hs) (body_range cs c hs) cs c by
+  hash_coded count body by code n m is = is ∙ (λ i. C.Hash (n i) ((m ∙ ap least_range bodies_are) i) cs c by)
+
+  pub hash_sized : (count body : Range) (by : List Expr) (code : Code) (frames sizes : List ℕ) → frames ≡ map (λ h. hash_frame count body (keyed_of h)) hs → sizes ≡ added frames bodies → code ≡ C.Hash count body cs c by → sizes ≡ map (held_size code) hs
+  hash_sized count body by code frames sizes f s is =
+      s ∙ (λ i. added (f i) (bodies_are i)) ∙ added-map (λ h. hash_frame count body (keyed_of h)) (λ h. size (entry_piece (writing_all cs) (writing c)) (entries h)) hs
+      ∙ map-same (λ h. hash_frame count body (keyed_of h) + size (entry_piece (writing_all cs) (writing c)) (entries h)) (held_size (C.Hash count body cs c by)) (size-Hash count body cs c by) hs
+      ∙ ap (λ (d : Code). map (held_size d) hs) (sym is)
+
+module _ (hs : List Held) (key c : Code) (keys under bodies : List ℕ) (k : keys ≡ map (key_size 0 (key ∷ [])) (flat_map entries hs)) (u : under ≡ map (held_size c) (kids (flat_map entries hs))) (b : bodies ≡ sums (map (λ h. length (entries h)) hs) (added keys under)) where
+  bodies_of_one : bodies ≡ map (λ h. size (entry_piece (writing_all (key ∷ [])) (writing c)) (entries h)) hs
+  bodies_of_one = entry_bodies hs (key ∷ []) c keys under bodies k u b
+
+  pub ord_coded : (count body : Range) (lo hi : Bound) (code : Code) → count ≡ count_range hs → body ≡ least_range bodies → code ≡ C.Ord count body key c lo hi → code ≡ C.Ord (count_range hs) (body_range (key ∷ []) c hs) key c lo hi
+  ord_coded count body lo hi code n m is = is ∙ (λ i. C.Ord (n i) ((m ∙ ap least_range bodies_of_one) i) key c lo hi)
+
+  pub ord_sized : (count body : Range) (lo hi : Bound) (code : Code) (frames sizes : List ℕ) → frames ≡ map (λ h. ord_frame count body (keyed_of h)) hs → sizes ≡ added frames bodies → code ≡ C.Ord count body key c lo hi → sizes ≡ map (held_size code) hs
+  ord_sized count body lo hi code frames sizes f s is =
+      s ∙ (λ i. added (f i) (bodies_of_one i)) ∙ added-map (λ h. ord_frame count body (keyed_of h)) (λ h. size (entry_piece (writing_all (key ∷ [])) (writing c)) (entries h)) hs
+      ∙ map-same (λ h. ord_frame count body (keyed_of h) + size (entry_piece (writing_all (key ∷ [])) (writing c)) (entries h)) (held_size (C.Ord count body key c lo hi)) (size-Ord count body key c lo hi) hs
+      ∙ ap (λ (d : Code). map (held_size d) hs) (sym is)

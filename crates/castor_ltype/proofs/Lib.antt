@@ -9,6 +9,7 @@ pub mod LaidLaws
 pub mod LayoutLaws
 pub mod LoopLaws
 pub mod MeaningLaws
+pub mod PartLaws
 pub mod PhaseLaws
 pub mod PieceLaws
 pub mod RangeLaws

@@ -1,6 +1,7 @@
 -- What is computed at build is of its type, whatever rows the scopes have that are known at run.
-use Rattle.std.proofs.Common.{◌≡◌, ◌∙◌, ℕ, ◌^◌, arith, pos, List, [], ◌∷◌, map, refl, sym, ap, subst, Bool, true, false, ◌==◌, if◌then◌else◌, Option, Some, None, Ok}
-use Rattle.std.proofs.lemmas.Bool.{and_from, lt-ltb}
+use Rattle.std.proofs.Common.{◌≡◌, ◌∙◌, ℕ, ◌^◌, ◌<◌, arith, pos, List, [], ◌∷◌, map, refl, sym, ap, subst, Bool, true, false, ◌==◌, if◌then◌else◌, Option, Some, None, Ok}
+use Rattle.std.proofs.lemmas.Bool.{and_from, le-leb, lt-ltb}
+use Rattle.std.proofs.lemmas.Str.{IsUtf8-nil, is_utf8-from_IsUtf8}
 use Rattle.castor_val.specs.declared.row.Row.{Row}
 use Rattle.castor_val.specs.declared.table.Table.{Table}
 use Rattle.castor_val.specs.declared.value.Ty.{Ty}
@@ -26,15 +27,18 @@ use Rattle.castor_stage.specs.declared.phase.Phase.TheVariants.{Build, Run}
 use Rattle.castor_stage.specs.Stages.{Phases, bind_phase, expr_stage, stage_under}
 use Rattle.castor_ltype.proofs.PhaseLaws.{AgreeAt, expr_rests, rel_rests}
 
-default_value : Ty → Value
+abbrev default_value : Ty → Value
 default_value ty.Int = Int (pos 0)
 default_value ty.Bool = Truth true
 default_value ty.Text = Text []
 
+small_int : (n : ℕ) → n < 2 ^ 63 → value_fits (Int (pos n)) ty.Int ≡ true
+small_int n small = lt-ltb n (2 ^ 63) small
+
 default_fits : (t : Ty) → value_fits (default_value t) t ≡ true
-default_fits ty.Int = lt-ltb 0 (2 ^ 63) (omega arith)
+default_fits ty.Int = small_int 0 (omega arith)
 default_fits ty.Bool = refl
-default_fits ty.Text = refl
+default_fits ty.Text = and_from _ _ (is_utf8-from_IsUtf8 [] IsUtf8-nil) (le-leb 0 65535 (omega arith))
 
 abbrev default_row : List Ty → Row
 default_row types = map default_value types

@@ -5,6 +5,7 @@ pub mod FitLaws
 pub mod GeneratorLaws
 pub mod IndexFitLaws
 pub mod IndexSizeLaws
+pub mod KeyLaws
 pub mod LaidLaws
 pub mod LayoutLaws
 pub mod LoopLaws

@@ -2,7 +2,7 @@
 
 ghost use Rattle.std.specs.Prelude.{◌≡◌, IfOk, IsOkAnd};
 ghost use Rattle.castor_ltype.specs.Generation.{code_for};
-ghost use Rattle.castor_ltype.specs.Layouts.{HasTypes, MeansQuery};
+ghost use Rattle.castor_ltype.specs.Layouts.{FitsHeld, HasTypes, MeansQuery};
 ghost use Rattle.castor_ltype.specs.Places as place;
 
 use crate::laid::Laid;
@@ -27,6 +27,9 @@ pub fn generate(alloc: Global, q: &Rel, held: &Held, types: &Context) -> Result<
 
     // The code has the column types of the query.
     ensures types { IfOk result (HasTypes q.now types.now) }
+
+    // What is held over tables of the types fits the code.
+    ensures fits { IfOk result (FitsHeld q.now types.now held.now) }
 
     // What is held, read under the code, means what the query means.
     ensures meaning { IfOk result (MeansQuery q.now held.now) }

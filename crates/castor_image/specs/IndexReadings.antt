@@ -1,0 +1,36 @@
+-- Indexes read from the front of bytes, in two steps: their entries, and then whether the bytes are those of these.
+use Rattle.std.specs.Prelude.{◌≡◌, ◌⊎◌, ℕ, ◌*◌, List, [], ◌∷◌, drop, length, Option, Some, Result, Ok, Err, MatchResult, true, false}
+use Rattle.castor_val.specs.declared.row.Row.{Row}
+use Rattle.castor_alg.specs.declared.held.Entry.{Entry}
+use Rattle.castor_alg.specs.declared.held.Held.{Held, Keyed}
+use Rattle.castor_alg.specs.Sorting.{sorted}
+use Rattle.castor_code.specs.declared.code.Range.{Range}
+use Rattle.castor_code.specs.Directories.{key_lt}
+use Rattle.castor_code.specs.Readings.{Read, Reader, ranged, begins, value_in}
+use Rattle.castor_code.specs.Shapes.{leaf_of}
+use Rattle.castor_code.specs.Steps.{next, many}
+use Rattle.castor_fixed.specs.Fields.{width}
+use Rattle.castor_image.specs.declared.error.OpenError.{OpenError}
+use Rattle.castor_image.specs.declared.error.OpenError.TheVariants.{NotImage, Memory}
+use Rattle.castor_image.specs.declared.writing.PutError.{PutError}
+use Rattle.castor_image.specs.declared.writing.PutError.TheVariants as put
+
+-- the values of a key
+abbrev pub key_read : List Reader → List ℕ → Read Row
+key_read [] bs = Some ([], bs)
+key_read (k ∷ ks) bs = next (k bs) (λ h rest. next (key_read ks rest) (λ vs more. Some (value_in (leaf_of h) ∷ vs, more)))
+
+-- so many entries, in the order of their keys
+abbrev pub sorted_read : ℕ → (List ℕ → Read Entry) → List ℕ → Read (List Entry)
+sorted_read n one bs = next (many n one bs) (λ es rest. Some (sorted key_lt es, rest))
+
+-- the entries of an index in the order of their keys, whatever the offsets are
+abbrev pub entries_read : Range → Range → (ℕ → ℕ) → (List ℕ → Read Entry) → Reader
+entries_read count body offsets one bs =
+    next (ranged count bs) (λ n b. next (ranged body b) (λ len c. next (sorted_read n one (drop (offsets n * width body.hi) c)) (λ es rest. Some (Keyed es, rest))))
+
+-- what was put is what the bytes begin with, and the rest is what is behind it; or it isn't, or nothing was put
+abbrev pub Confirms : Result (Unit {0}) PutError → List ℕ → List ℕ → Result (List ℕ) OpenError → Type 0
+Confirms done bs written r = MatchResult r
+    (λ rest. (done ≡ Ok tt) × ((begins written bs ≡ true) × (rest ≡ drop (length written) bs)))
+    (λ e. (e ≡ Memory) ⊎ ((e ≡ NotImage) × ((done ≡ Err put.NotFit) ⊎ ((done ≡ Ok tt) × (begins written bs ≡ false)))))

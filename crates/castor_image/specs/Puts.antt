@@ -1,0 +1,55 @@
+-- What calls that put pieces at the end of bytes give.
+use Rattle.std.specs.Prelude.{◌≡◌, ◌⊎◌, ◌≤◌, ℕ, ◌+◌, ◌-◌, ◌*◌, List, ◌++◌, take, drop, length, map, All, Result, MatchResult, true, false}
+use Rattle.std.specs.List.{flat_map}
+use Rattle.castor_alg.specs.declared.held.Entry.{Entry}
+use Rattle.castor_code.specs.declared.code.Code.{Code}
+use Rattle.castor_code.specs.declared.code.Range.{Range}
+use Rattle.castor_code.specs.Data.{format, writers}
+use Rattle.castor_code.specs.Directories.{entry_piece, offset_fields}
+use Rattle.castor_code.specs.Pieces.{Piece, behind_number, ranged_field, within}
+use Rattle.castor_dir.specs.Hashing.{hash_of}
+use Rattle.castor_fixed.specs.Fields.{width}
+use Rattle.castor_image.specs.declared.writing.PutError.{PutError}
+use Rattle.castor_image.specs.declared.writing.PutError.TheVariants.{NotFit, Memory}
+
+-- it held and was done; or it doesn't hold, or there was no memory
+abbrev pub Done : {T : Type 0} → (T → Type 0) → Type 0 → Result T PutError → Type 0
+Done done refused r = MatchResult r done (λ e. (e ≡ Memory) ⊎ ((e ≡ NotFit) × refused))
+
+-- the piece fits and was put at the end; or it doesn't fit, or there was no memory
+abbrev pub Puts : Piece → List ℕ → List ℕ → Result (Unit {0}) PutError → Type 0
+Puts p old new r = Done (λ u. (p.fits ≡ true) × (new ≡ old ++ p.bytes)) (p.fits ≡ false) r
+
+-- the field of a number of a range
+abbrev pub number_piece : Range → ℕ → Piece
+number_piece r n = record { fits = within r n; bytes = ranged_field r n }
+
+-- a body behind its length and the offsets into it
+abbrev pub directed_piece : Range → List ℕ → Piece → Piece
+directed_piece body offsets p = behind_number body (length p.bytes) (record { fits = p.fits; bytes = offset_fields body offsets ++ p.bytes })
+
+-- the bytes before a body with so many offsets
+abbrev pub front_width : Range → ℕ → ℕ
+front_width body offsets = width (body.hi - body.lo) + offsets * width body.hi
+
+-- the room between two places was filled with the length of what stands behind it, and the offsets
+abbrev pub Fills : Range → ℕ → ℕ → List ℕ → List ℕ → List ℕ → Result (Unit {0}) PutError → Type 0
+Fills body at first offsets old new r =
+    let n = length old - first in
+    Done (λ u. (within body n ≡ true) × (new ≡ take at old ++ ((ranged_field body n ++ offset_fields body offsets) ++ drop first old))) (within body n ≡ false) r
+
+-- the piece of an entry, by the codes of its key and its child
+abbrev pub entry_by : List Code → Code → Entry → Piece
+entry_by key kid e = entry_piece (writers (map format key)) (format kid).write e
+
+-- the piece was put, and these places in it are given
+abbrev pub PutsAt : {T : Type 0} → (T → List ℕ) → Piece → List ℕ → List ℕ → List ℕ → Result T PutError → Type 0
+PutsAt view p starts old new r = Done (λ found. (p.fits ≡ true) × (new ≡ old ++ p.bytes) × (view found ≡ starts)) (p.fits ≡ false) r
+
+-- the hashes of the keys
+abbrev pub hashes : List Entry → List ℕ
+hashes es = map (λ (e : Entry). hash_of e.key) es
+
+-- the entries at these places
+abbrev pub entries_at : List Entry → List ℕ → List Entry
+entries_at es places = flat_map (λ p. take 1 (drop p es)) places

@@ -1,7 +1,8 @@
 -- Images: what they hold, and their bytes.
-use Rattle.std.specs.Prelude.{◌≡◌, ℕ, nat_le, List, [], ◌∷◌, ◌++◌, map, length, true, Some}
+use Rattle.std.specs.Prelude.{◌≡◌, ℕ, nat_le, List, [], ◌∷◌, ◌++◌, map, length, Bool, true, false, Option, Some, None}
 use Rattle.castor_val.specs.declared.column.Column.{Column}
 use Rattle.castor_val.specs.declared.value.Ty.{Ty}
+use Rattle.castor_alg.specs.Typing.{same_types}
 use Rattle.castor_alg.specs.declared.context.Context.{Context}
 use Rattle.castor_alg.specs.declared.held.Held.{Held}
 use Rattle.castor_code.specs.declared.code.Code.{Code}
@@ -45,9 +46,14 @@ types_of cs = map (λ (c : Column). c.ty) cs
 abbrev pub context_of : Head → Context
 context_of head = record { tables = []; scopes = []; params = types_of head.params }
 
+-- there are types, and they are these
+abbrev pub has_types : List Ty → Option (List Ty) → Bool
+has_types due None = false
+has_types due (Some types) = same_types types due
+
 -- the code is well typed with the parameters of the head, and gives its columns
-abbrev pub FitsHead : Code → Head → Type 0
-FitsHead code head = code_types code (context_of head) ≡ Some (types_of head.columns)
+abbrev pub fits_head : Code → Head → Bool
+fits_head code head = has_types (types_of head.columns) (code_types code (context_of head))
 
 -- a length of 64 bits
 abbrev pub is_length : ℕ → Type 0
@@ -57,7 +63,7 @@ is_length n = nat_le n 18446744073709551615 ≡ true
 pub record IsContent (c : Content) : Type 0 where
   pub head : is_head c.head ≡ true
   pub code : is_well_formed c.code ≡ true
-  pub types : FitsHead c.code c.head
+  pub types : fits_head c.code c.head ≡ true
   pub held : fits c.code c.held ≡ true
 
 -- the lengths of the code and of the data have their fields

@@ -30,7 +30,7 @@ entries_read count body offsets one bs =
     next (ranged count bs) (λ n b. next (ranged body b) (λ len c. next (sorted_read n one (drop (offsets n * width body.hi) c)) (λ es rest. Some (Keyed es, rest))))
 
 -- what was put is what the bytes begin with, and the rest is what is behind it; or it isn't, or nothing was put
-abbrev pub Confirms : Result (Unit {0}) PutError → List ℕ → List ℕ → Result (List ℕ) OpenError → Type 0
-Confirms done bs written r = MatchResult r
-    (λ rest. (done ≡ Ok tt) × ((begins written bs ≡ true) × (rest ≡ drop (length written) bs)))
+abbrev pub Confirms : {T : Type 0} → (T → List ℕ) → Result (Unit {0}) PutError → List ℕ → List ℕ → Result T OpenError → Type 0
+Confirms view done bs written r = MatchResult r
+    (λ rest. (done ≡ Ok tt) × ((begins written bs ≡ true) × (view rest ≡ drop (length written) bs)))
     (λ e. (e ≡ Memory) ⊎ ((e ≡ NotImage) × ((done ≡ Err put.NotFit) ⊎ ((done ≡ Ok tt) × (begins written bs ≡ false)))))

@@ -3,6 +3,7 @@ pub mod Heads
 pub mod HeadReadings
 pub mod Images
 pub mod IndexReadings
+pub mod Opens
 pub mod Puts
 pub mod Takes
 pub mod Types

@@ -4,7 +4,7 @@ ghost use Rattle.std.specs.Prelude.{◌≡◌, ◌≤◌, ◌+◌, ◌++◌, IfO
 ghost use Rattle.castor_code.specs.CodeForms.{code_bytes, is_well_formed};
 ghost use Rattle.castor_code.specs.Data.{data_of, fits};
 ghost use Rattle.castor_image.specs.Heads.{head_bytes, is_head};
-ghost use Rattle.castor_image.specs.Images.{FitsHead, image_of, length_field, sections};
+ghost use Rattle.castor_image.specs.Images.{fits_head, image_of, length_field, sections};
 
 use crate::head::{Head, put_head};
 use crate::image::MAGIC;
@@ -20,7 +20,7 @@ use std::alloc::Global;
 pub fn build(alloc: Global, head: &Head, code: &Code, held: &Held) -> Result<Vec<u8>, Memory>
     requires head { is_head head.now ≡ true }
     requires code { is_well_formed code.now ≡ true }
-    requires types { FitsHead code.now head.now }
+    requires types { fits_head code.now head.now ≡ true }
     requires held { fits code.now held.now ≡ true }
     ensures { IfOk result (λ image. image.items ≡ image_of head.now code.now held.now) }
 {

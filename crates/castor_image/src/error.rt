@@ -1,5 +1,7 @@
 //! Why an image isn't opened.
 
+ghost use Rattle.std.specs.Prelude.{◌≡◌};
+
 use castor_val::Memory;
 use std::alloc::{AllocError, AllocFailed};
 

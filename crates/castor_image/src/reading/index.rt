@@ -192,7 +192,7 @@ fn confirmed<'a>(
     put: Result<(), PutError>,
     bytes: &[u8],
 ) -> Result<&'a [u8], OpenError>
-    ensures { Confirms put front.now bytes.now result }
+    ensures { Confirms (λ rest. rest.now) put front.now bytes.now result }
 {
     match put {
         Ok(()) => {

@@ -96,7 +96,7 @@ fn put_buckets(
     plan: &Plan,
 ) -> Result<Vec<u64>, PutError>
     requires { plan.now ≡ plan_of (hashes entries.now) }
-    ensures { PutsAt (one_after_other (entry_by key.now kid.now) (bucketed entries.now)) (bucket_starts (entry_by key.now kid.now) entries.now) out.old.items out.new.items result }
+    ensures { PutsAt (λ starts. starts.items) (one_after_other (entry_by key.now kid.now) (bucketed entries.now)) (bucket_starts (entry_by key.now kid.now) entries.now) out.old.items out.new.items result }
 {
     let first = out.len();
     let mut starts = Vec::new(alloc);
@@ -194,7 +194,7 @@ fn put_entries(
     kid: &Code,
     entries: &[Entry],
 ) -> Result<Vec<u64>, PutError>
-    ensures { PutsAt (one_after_other (entry_by key.now kid.now) entries.now) (entry_starts (entry_by key.now kid.now) entries.now) out.old.items out.new.items result }
+    ensures { PutsAt (λ starts. starts.items) (one_after_other (entry_by key.now kid.now) entries.now) (entry_starts (entry_by key.now kid.now) entries.now) out.old.items out.new.items result }
 {
     let first = out.len();
     let mut starts = Vec::new(alloc);

@@ -1,8 +1,7 @@
 //! Fields of ranges, and fields that are filled in later.
 
-ghost use Rattle.std.specs.Prelude.{◌≡◌, ◌≤◌, ◌+◌, ◌-◌, ◌++◌, All, OnOk, drop, length, take};
+ghost use Rattle.std.specs.Prelude.{◌≡◌, ◌≤◌, ◌+◌, ◌-◌, ◌++◌, All, OnOk, drop, length, replicate, take};
 ghost use Rattle.castor_code.specs.Directories.{offset_fields};
-ghost use Rattle.std.specs.List.{replicate};
 ghost use Rattle.castor_fixed.specs.Fields.{width};
 ghost use Rattle.castor_image.specs.Puts.{Fills, Puts, front_width, number_piece};
 

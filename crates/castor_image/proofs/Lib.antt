@@ -1,3 +1,14 @@
+pub mod ArmLaws
+pub mod BucketLaws
 pub mod FrameLaws
 pub mod HeadLaws
+pub mod ImageLaws
+pub mod IndexReadLaws
+pub mod KeyPutLaws
 pub mod PieceLaws
+pub mod PutLaws
+pub mod RunLaws
+pub mod SortLaws
+pub mod TakeLaws
+pub mod TextLaws
+pub mod TypeLaws

@@ -20,6 +20,10 @@ abbrev pub key_read : List Reader → List ℕ → Read Row
 key_read [] bs = Some ([], bs)
 key_read (k ∷ ks) bs = next (k bs) (λ h rest. next (key_read ks rest) (λ vs more. Some (value_in (leaf_of h) ∷ vs, more)))
 
+-- the values of a key, then a child
+abbrev pub keyed_read : List Reader → Reader → List ℕ → Read Entry
+keyed_read ks kid bs = next (key_read ks bs) (λ key rest. next (kid rest) (λ h more. Some (record { key = key; kid = h }, more)))
+
 -- so many entries, in the order of their keys
 abbrev pub sorted_read : ℕ → (List ℕ → Read Entry) → List ℕ → Read (List Entry)
 sorted_read n one bs = next (many n one bs) (λ es rest. Some (sorted key_lt es, rest))

@@ -1,12 +1,15 @@
 -- What calls that put pieces at the end of bytes give.
-use Rattle.std.specs.Prelude.{◌≡◌, ◌⊎◌, ◌≤◌, ℕ, ◌+◌, ◌-◌, ◌*◌, List, ◌++◌, take, drop, length, map, All, Result, MatchResult, true, false}
+use Rattle.std.specs.Prelude.{◌≡◌, ◌⊎◌, ℕ, ◌+◌, ◌-◌, ◌*◌, List, [], ◌∷◌, ◌++◌, take, drop, length, map, Some, Result, MatchResult, true, false}
 use Rattle.std.specs.List.{flat_map}
 use Rattle.castor_alg.specs.declared.held.Entry.{Entry}
-use Rattle.castor_code.specs.declared.code.Code.{Code}
+use Rattle.castor_val.specs.declared.value.Value.{Value}
+use Rattle.castor_code.specs.declared.code.Code.{Code, out-Code}
+use Rattle.castor_code.specs.declared.code.Code.TheOpen.{Code-F}
+use Rattle.castor_code.specs.declared.code.Code.TheOpen as code
 use Rattle.castor_code.specs.declared.code.Range.{Range}
 use Rattle.castor_code.specs.Data.{format, writers}
 use Rattle.castor_code.specs.Directories.{entry_piece, offset_fields}
-use Rattle.castor_code.specs.Pieces.{Piece, behind_number, ranged_field, within}
+use Rattle.castor_code.specs.Pieces.{Piece, behind_number, bool_piece, both, empty_piece, int_piece, no_piece, ranged_field, text_piece, within}
 use Rattle.castor_dir.specs.Hashing.{hash_of}
 use Rattle.castor_fixed.specs.Fields.{width}
 use Rattle.castor_image.specs.declared.writing.PutError.{PutError}
@@ -53,3 +56,30 @@ hashes es = map (λ (e : Entry). hash_of e.key) es
 -- the entries at these places
 abbrev pub entries_at : List Entry → List ℕ → List Entry
 entries_at es places = flat_map (λ p. take 1 (drop p es)) places
+
+-- a value of a key, by the code of its column: only codes of a single value have any
+abbrev pub value_layer : Value → Code-F Code → Piece
+value_layer v (code.Int lo hi) = int_piece lo hi (Some v)
+value_layer v code.Bool = bool_piece (Some v)
+value_layer v (code.Text min max) = text_piece (record { lo = min; hi = max }) (Some v)
+value_layer v (code.Cross ks) = no_piece
+value_layer v (code.Concat ks) = no_piece
+value_layer v (code.List count body kid) = no_piece
+value_layer v (code.Hash count body key kid by) = no_piece
+value_layer v (code.Ord count body key kid lo hi) = no_piece
+value_layer v (code.Select es kid) = no_piece
+value_layer v (code.Filter e kid) = no_piece
+value_layer v (code.Dep k first second) = no_piece
+value_layer v (code.Group ks aggs kid) = no_piece
+value_layer v (code.Order ks kid) = no_piece
+value_layer v (code.Dedup kid) = no_piece
+
+abbrev pub value_piece : Code → Value → Piece
+value_piece c v = value_layer v (out-Code c)
+
+-- the values of a key, one for each code
+abbrev pub values_piece : List Code → List Value → Piece
+values_piece [] [] = empty_piece
+values_piece [] (v ∷ vs) = no_piece
+values_piece (c ∷ cs) [] = no_piece
+values_piece (c ∷ cs) (v ∷ vs) = both (value_piece c v) (values_piece cs vs)

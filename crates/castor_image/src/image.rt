@@ -93,7 +93,8 @@ fn open_frame<'a>(alloc: Global, bytes: &'a [u8]) -> Result<Frame<'a>, OpenError
 {
     let mut input = Input::new(bytes);
     let frame = input.frame(alloc)?;
-    if input.rest().is_empty() {
+    let left = input.rest();
+    if left.is_empty() {
         Ok(frame)
     } else {
         Err(OpenError::NotImage)
@@ -239,7 +240,8 @@ fn all_data(alloc: Global, code: &Code, bytes: &[u8]) -> Result<Held, OpenError>
 {
     let mut input = Input::new(bytes);
     let held = input.data(alloc, code)?;
-    if input.rest().is_empty() {
+    let behind = input.rest();
+    if behind.is_empty() {
         Ok(held)
     } else {
         Err(OpenError::NotImage)

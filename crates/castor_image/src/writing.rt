@@ -4,8 +4,7 @@ ghost use Rattle.std.specs.Prelude.{◌≡◌, [], ◌∷◌, map};
 ghost use Rattle.castor_code.specs.Data.{format, writers};
 ghost use Rattle.castor_code.specs.Pieces.{inner_piece, list_piece, one_after_other, parts_piece, side_by_side};
 ghost use Rattle.castor_code.specs.Shapes.{inner_of, parts_of, rows_of};
-ghost use Rattle.castor_alg.specs.declared.held.Held.{Leaf};
-ghost use Rattle.castor_image.specs.Puts.{Puts, directed_piece, entry_by};
+ghost use Rattle.castor_image.specs.Puts.{Puts, directed_piece, entry_by, value_piece, values_piece};
 
 mod index;
 mod numbers;
@@ -22,6 +21,7 @@ use values::{put_bool, put_int, put_text};
 
 pub use index::{put_hash, put_ord};
 pub use numbers::fill;
+pub use values::gap;
 
 /// Why held data isn't put.
 #[derive(Clone, Copy, Debug, PartialEq, Eq)]
@@ -255,7 +255,7 @@ fn put_entry(
 
 /// The values of a key, one for each code.
 fn put_key(out: &mut Vec<u8>, key: &[Code], values: &[Value]) -> Result<(), PutError>
-    ensures { Puts (side_by_side (writers (map format key.now)) (map Leaf values.now)) out.old.items out.new.items result }
+    ensures { Puts (values_piece key.now values.now) out.old.items out.new.items result }
 {
     if key.len() != values.len() {
         return Err(PutError::NotFit);
@@ -268,7 +268,7 @@ fn put_key(out: &mut Vec<u8>, key: &[Code], values: &[Value]) -> Result<(), PutE
 
 /// A value of a key.
 fn put_value(out: &mut Vec<u8>, code: &Code, value: &Value) -> Result<(), PutError>
-    ensures { Puts ((format code.now).write (Leaf value.now)) out.old.items out.new.items result }
+    ensures { Puts (value_piece code.now value.now) out.old.items out.new.items result }
 {
     match code {
         Code::Int { lo, hi } => put_int(out, *lo, *hi, Some(value)),

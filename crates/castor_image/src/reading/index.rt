@@ -3,9 +3,9 @@
 ghost use Rattle.std.specs.Prelude.{◌≡◌, ◌*◌, drop, map};
 ghost use Rattle.castor_fixed.specs.Fields.{width};
 ghost use Rattle.castor_code.specs.Data.{format, hash_format, ord_format, readers, stored};
-ghost use Rattle.castor_code.specs.Readings.{entry_read, hash_offsets, ord_offsets};
+ghost use Rattle.castor_code.specs.Readings.{hash_offsets, ord_offsets};
 ghost use Rattle.castor_code.specs.Steps.{many};
-ghost use Rattle.castor_image.specs.IndexReadings.{Confirms, entries_read, key_read, sorted_read};
+ghost use Rattle.castor_image.specs.IndexReadings.{Confirms, entries_read, key_read, keyed_read, sorted_read};
 ghost use Rattle.castor_image.specs.Takes.{Takes};
 
 use super::Input;
@@ -42,8 +42,13 @@ impl<'a> Input<'a> {
         let held = self.hash_entries(alloc, count, body, key, kid)?;
         let mut bytes = Vec::new(alloc);
         let put = put_hash(alloc, &mut bytes, count, body, key, kid, &held);
-        self.rest = confirmed(front, put, bytes.as_slice())?;
-        Ok(held)
+        match confirmed(front, put, bytes.as_slice()) {
+            Ok(rest) => {
+                self.rest = rest;
+                Ok(held)
+            }
+            Err(why) => Err(why),
+        }
     }
 
     /// An ordered index, read like a hash index.
@@ -62,8 +67,13 @@ impl<'a> Input<'a> {
         let held = self.ord_entries(alloc, count, body, key, kid)?;
         let mut bytes = Vec::new(alloc);
         let put = put_ord(alloc, &mut bytes, count, body, key, kid, &held);
-        self.rest = confirmed(front, put, bytes.as_slice())?;
-        Ok(held)
+        match confirmed(front, put, bytes.as_slice()) {
+            Ok(rest) => {
+                self.rest = rest;
+                Ok(held)
+            }
+            Err(why) => Err(why),
+        }
     }
 
     /// The entries of a hash index by their keys, whatever its offsets say.
@@ -76,7 +86,7 @@ impl<'a> Input<'a> {
         key: &[Code],
         kid: &Code,
     ) -> Result<Held, OpenError>
-        ensures { Takes (λ h. h) (entries_read count body hash_offsets (entry_read (readers (map format key.now)) (stored kid.now)) self.old.rest.now) self.new.rest.now result }
+        ensures { Takes (λ h. h) (entries_read count body hash_offsets (keyed_read (readers (map format key.now)) (stored kid.now)) self.old.rest.now) self.new.rest.now result }
     {
         let number = self.ranged(count)?;
         let _length = self.ranged(body)?;
@@ -98,7 +108,7 @@ impl<'a> Input<'a> {
         key: &[Code],
         kid: &Code,
     ) -> Result<Held, OpenError>
-        ensures { Takes (λ h. h) (entries_read count body ord_offsets (entry_read (readers (map format key.now)) (stored kid.now)) self.old.rest.now) self.new.rest.now result }
+        ensures { Takes (λ h. h) (entries_read count body ord_offsets (keyed_read (readers (map format key.now)) (stored kid.now)) self.old.rest.now) self.new.rest.now result }
     {
         let number = self.ranged(count)?;
         let _length = self.ranged(body)?;
@@ -128,7 +138,7 @@ impl<'a> Input<'a> {
         kid: &Code,
         number: u64,
     ) -> Result<Vec<Entry>, OpenError>
-        ensures { Takes (λ es. es.items) (sorted_read number (entry_read (readers (map format key.now)) (stored kid.now)) self.old.rest.now) self.new.rest.now result }
+        ensures { Takes (λ es. es.items) (sorted_read number (keyed_read (readers (map format key.now)) (stored kid.now)) self.old.rest.now) self.new.rest.now result }
     {
         let mut entries = self.many_entries(alloc, key, kid, number)?;
         sort_by_key(&mut entries)?;
@@ -144,7 +154,7 @@ impl<'a> Input<'a> {
         kid: &Code,
         number: u64,
     ) -> Result<Vec<Entry>, OpenError>
-        ensures { Takes (λ es. es.items) (many number (entry_read (readers (map format key.now)) (stored kid.now)) self.old.rest.now) self.new.rest.now result }
+        ensures { Takes (λ es. es.items) (many number (keyed_read (readers (map format key.now)) (stored kid.now)) self.old.rest.now) self.new.rest.now result }
     {
         let mut entries = Vec::new(alloc);
         for _ in 0..number {
@@ -160,7 +170,7 @@ impl<'a> Input<'a> {
     /// The values of a key, then a child. The entry is counted where it takes no bytes.
     #[cycle(read)]
     fn entry(&mut self, alloc: Global, key: &[Code], kid: &Code) -> Result<Entry, OpenError>
-        ensures { Takes (λ e. e) (entry_read (readers (map format key.now)) (stored kid.now) self.old.rest.now) self.new.rest.now result }
+        ensures { Takes (λ e. e) (keyed_read (readers (map format key.now)) (stored kid.now) self.old.rest.now) self.new.rest.now result }
     {
         let before = self.rest.len();
         let key = self.key(alloc, key)?;

@@ -7,6 +7,7 @@ ghost use Rattle.castor_image.specs.Takes.{Takes};
 
 use super::Input;
 use crate::error::OpenError;
+use crate::writing::gap;
 use castor_alg::Held;
 use castor_code::Range;
 use castor_val::{Text, Value};
@@ -18,10 +19,7 @@ impl<'a> Input<'a> {
     pub fn int(&mut self, lo: i64, hi: i64) -> Result<Held, OpenError>
         ensures { Takes (λ h. h) (int_read lo hi self.old.rest.now) self.new.rest.now result }
     {
-        if hi < lo {
-            return Err(OpenError::NotImage);
-        }
-        let number = self.number((hi as i128 - lo as i128) as u64)?;
+        let number = self.number(gap(lo, hi))?;
         let value = lo as i128 + number as i128;
         if value > hi as i128 {
             return Err(OpenError::NotImage);

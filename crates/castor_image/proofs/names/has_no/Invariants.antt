@@ -5,4 +5,4 @@ use Rattle.castor_image.specs.Heads.{names}
 use Rattle.castor_image.proofs.names.has_no.Given as goal
 
 abbrev pub invariant-loop-column : goal.invariant-loop-column
-invariant-loop-column l = list_all (λ u. not (bytes_eq l.name.now u)) (names l.columns) ≡ list_all (λ u. not (bytes_eq l.name.now u)) (names (drop l.column-index l.columns))
+invariant-loop-column l = list_all (λ u. not (bytes_eq l.name u)) (names l.columns) ≡ list_all (λ u. not (bytes_eq l.name u)) (names (drop l.column-index l.columns))

@@ -1,7 +1,7 @@
 -- The entries at the places of a bucket.
-use Rattle.std.proofs.Common.{◌≡◌, ◌∙◌, ℕ, zero, suc, ◌+◌, ◌<◌, eqb, cond, List, [], ◌∷◌, ◌++◌, map, filter, take, drop, length, get_or, Bool, true, false, subst, ap, sym, refl, arith, append_assoc, length-append, length-map}
+use Rattle.std.proofs.Common.{◌≡◌, ◌∙◌, ℕ, zero, suc, ◌+◌, ◌<◌, eqb, cond, List, [], ◌∷◌, ◌++◌, map, filter, take, drop, length, get_or, Bool, true, false, subst, ap, sym, refl, arith, append_assoc, length-append}
 use Rattle.std.specs.List.{flat_map, range_with_len}
-use Rattle.std.proofs.lemmas.List.{drop_at, get_or-map}
+use Rattle.std.proofs.lemmas.List.{drop_at, length-map}
 use Rattle.castor_alg.specs.declared.held.Entry.{Entry}
 use Rattle.castor_code.specs.Directories.{bucket_of}
 use Rattle.castor_dir.specs.Buckets.{bucket, bucket_count, places, places_in}
@@ -49,7 +49,7 @@ map-map f g (x ∷ xs) = ap (λ ys. f (g x) ∷ ys) (map-map f g xs)
 -- the buckets of the hashes of entries
 pub buckets_of-hashes : (es : List Entry) → buckets_of (hashes es) ≡ map (bucket_of (bucket_count (length es))) es
 buckets_of-hashes es =
-    ap (λ n. map (λ h. bucket h (bucket_count n)) (hashes es)) (length-map (λ (e : Entry). hash_of e.key) es)
+    ap (λ n. map (λ h. bucket h (bucket_count n)) (hashes es)) (length-map es (λ (e : Entry). hash_of e.key))
     ∙ map-map (λ h. bucket h (bucket_count (length es))) (λ (e : Entry). hash_of e.key) es
 
 -- the entries at the places of a bucket are those that fall into it
@@ -57,5 +57,5 @@ pub entries_in : (es : List Entry) (b : ℕ) → entries_at es (places_in (bucke
 entries_in es b =
     let k : Entry → ℕ = bucket_of (bucket_count (length es)) in
     ap (λ (assigned : List ℕ). entries_at es (places_in assigned b)) (buckets_of-hashes es)
-    ∙ ap (λ n. flat_map (λ p. take 1 (drop p es)) (filter (λ p. eqb (get_or (map k es) p 0) b) (range_with_len 0 n))) (length-map k es)
+    ∙ ap (λ n. flat_map (λ p. take 1 (drop p es)) (filter (λ p. eqb (get_or (map k es) p 0) b) (range_with_len 0 n))) (length-map es k)
     ∙ picks_from k b es [] es refl

@@ -69,10 +69,10 @@ framed_moved head code stored rest =
 pub frame_again : (head : Head) (code stored rest : List ℕ) → is_head head ≡ true → is_length (length code) → is_length (length stored) → frame_read (framed head code stored ++ rest) ≡ Some (frame_of head code stored, rest)
 frame_again head code stored rest ok short small =
     ap frame_read (framed_moved head code stored rest)
-    ∙ next_of _ _ _ _ (magic_again _)
-    ∙ next_of _ _ _ _ (head_again head _ ok)
-    ∙ next_of _ _ _ _ (length_again (length code) _ short)
-    ∙ next_of _ _ _ _ (length_again (length stored) _ small)
+    ∙ next_of _ (λ front s. behind_magic s) magic (head_bytes head ++ (length_field (length code) ++ (length_field (length stored) ++ (code ++ (stored ++ rest))))) (magic_again _)
+    ∙ next_of _ (λ h s. next (length_read s) (λ m t. next (length_read t) (λ n u. sections_read h m n u))) head (length_field (length code) ++ (length_field (length stored) ++ (code ++ (stored ++ rest)))) (head_again head _ ok)
+    ∙ next_of _ (λ m t. next (length_read t) (λ n u. sections_read head m n u)) (length code) (length_field (length stored) ++ (code ++ (stored ++ rest))) (length_again (length code) _ short)
+    ∙ next_of _ (λ n u. sections_read head (length code) n u) (length stored) (code ++ (stored ++ rest)) (length_again (length stored) _ small)
     ∙ sections_again head code stored rest
 
 pub frame_taken : (bs rest : List ℕ) (f : Frame) → frame_read bs ≡ Some (f, rest) → Framed f bs rest

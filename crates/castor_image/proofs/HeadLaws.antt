@@ -25,7 +25,7 @@ or_below true b n is left right = left refl
 or_below false b n is left right = right is
 
 between_below : (from to n : ℕ) → to < 128 → is_between from to n ≡ true → n < 128
-between_below from to n low is = let most = leb-true n to (and_parts _ _ is).1 in omega arith
+between_below from to n low is = let most : n ≤ to = leb-true n to (and_parts _ _ is).1 in omega arith
 
 letter_below : (n : ℕ) → is_letter n ≡ true → n < 128
 letter_below n is =

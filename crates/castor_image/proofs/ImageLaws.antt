@@ -32,23 +32,23 @@ images_are_told c d front rest whole a b is =
     let parts = some_pair_parts _ _ _ _ (sym (frame_there c whole front rest a is) ∙ frame_whole d whole b) in
     let head : c.head ≡ d.head = ap (λ (f : Frame). f.head) parts.0 in
     let code : c.code ≡ d.code = codes_differ c.code d.code a.content.code b.content.code (ap (λ (f : Frame). f.code) parts.0) in
-    let data : data_of c.code c.held ≡ data_of c.code d.held = ap (λ (f : Frame). f.body) parts.0 ∙ ap (λ (k : Code). data_of k d.held) (sym code) in
+    let same_data : data_of c.code c.held ≡ data_of c.code d.held = ap (λ (f : Frame). f.body) parts.0 ∙ ap (λ (k : Code). data_of k d.held) (sym code) in
     let fine : fits c.code d.held ≡ true = ap (λ (k : Code). fits k d.held) code ∙ b.content.held in
-    let held = data_is_told c.code c.held d.held [] [] a.content.held fine (ap (λ xs. xs ++ []) data) in
+    let held = data_is_told c.code c.held d.held [] [] a.content.held fine (ap (λ xs. xs ++ []) same_data) in
     (λ i. record { head = head i; code = code i; held = held.0 i }, parts.1)
 
 -- what was opened is an image
 pub opened_image : (f : Frame) (bytes : List ℕ) (head : Head) (code : Code) (held : Held) → frame_read bytes ≡ Some (f, []) → head ≡ f.head → IsLayout f.head f.code f.body code held → IsImageOf (record { head = head; code = code; held = held }) bytes
 opened_image f bytes head code held read same layout =
     let frame = frame_taken bytes [] f read in
-    let data = (reads_data code).taken f.body [] held layout.data_is in
-    let body : f.body ≡ data_of code held = data.1 ∙ append-nil (data_of code held) in
+    let told = (reads_data code).taken f.body [] held layout.data_is in
+    let body : f.body ≡ data_of code held = told.1 ∙ append-nil (data_of code held) in
     record {
       content = record {
         head = ap (λ (h : Head). is_head h) same ∙ frame.head;
         code = layout.formed;
         types = ap (fits_head code) same ∙ layout.typed;
-        held = data.0;
+        held = told.0;
       };
       lengths = record {
         code = subst (λ (xs : List ℕ). is_length (length xs)) layout.code_is frame.code;

@@ -22,7 +22,7 @@ use Rattle.castor_image.specs.IndexReadings.{key_read, keyed_read, entries_read,
 use Rattle.castor_image.specs.Puts.{Puts}
 use Rattle.castor_image.proofs.PieceLaws.{first_fails}
 use Rattle.castor_image.proofs.PutLaws.{second_fails}
-use Rattle.castor_image.proofs.TakeLaws.{Lacks}
+use Rattle.castor_image.proofs.TakeLaws.{Lacks, lacks_more}
 
 -- ---- keys and entries
 abbrev value_of_held : Held → Value
@@ -34,11 +34,11 @@ key_behind h (Some p) = refl
 
 key_is : (ks : List Reader) (bs : List ℕ) → key_read ks bs ≡ next (in_order ks bs) (λ hs rest. got (map value_of_held hs) rest)
 key_is [] bs = refl
-key_is (k ∷ ks) bs = by (k bs)
+key_is (k ∷ ks) bs = by (λ rest. key_is ks rest) (k bs)
   where
-    by : (o : Option (Held × List ℕ)) → next o (λ h rest. next (key_read ks rest) (λ vs more. got (value_of_held h ∷ vs) more)) ≡ next (next o (λ h rest. next (in_order ks rest) (λ hs more. got (h ∷ hs) more))) (λ hs rest. got (map value_of_held hs) rest)
-    by None = refl
-    by (Some p) = ap (λ (o : Option (Row × List ℕ)). next o (λ vs more. got (value_of_held p.0 ∷ vs) more)) (key_is ks p.1) ∙ key_behind p.0 (in_order ks p.1)
+    by : ((rest : List ℕ) → key_read ks rest ≡ next (in_order ks rest) (λ hs rest. got (map value_of_held hs) rest)) → (o : Option (Held × List ℕ)) → next o (λ h rest. next (key_read ks rest) (λ vs more. got (value_of_held h ∷ vs) more)) ≡ next (next o (λ h rest. next (in_order ks rest) (λ hs more. got (h ∷ hs) more))) (λ hs rest. got (map value_of_held hs) rest)
+    by others None = refl
+    by others (Some p) = ap (λ (o : Option (Row × List ℕ)). next o (λ vs more. got (value_of_held p.0 ∷ vs) more)) (others p.1) ∙ key_behind p.0 (in_order ks p.1)
 
 keyed_is : (ks : List Reader) (kid : Reader) (bs : List ℕ) → keyed_read ks kid bs ≡ entry_read ks kid bs
 keyed_is ks kid bs = ap (λ (o : Option (Row × List ℕ)). next o (λ key rest. next (kid rest) (λ h more. got (record { key = key; kid = h }) more))) (key_is ks bs) ∙ by (in_order ks bs)
@@ -74,14 +74,14 @@ module _ (write : Held → Piece) (h : Held) (bs written : List ℕ) (done : Res
   did_put is = subst (λ (r : Result (Unit {0}) PutError). Puts (write h) [] written r) is put_is
 
   refused : (a b : Bool) → (a && b) ≡ false → when {X = Held × List ℕ} (a && b) (h, drop (length (write h).bytes) bs) ≡ None
-  refused a b no = ap (λ (t : Bool). when {X = Held × List ℕ} t (h, drop (length (write h).bytes) bs)) no
+  refused a b fails = ap (λ (t : Bool). when {X = Held × List ℕ} t (h, drop (length (write h).bytes) bs)) fails
 
   no_fit : done ≡ Err put.NotFit → (write h).fits ≡ false
   no_fit is = from (subst (λ (r : Result (Unit {0}) PutError). Puts (write h) [] written r) is put_is)
     where
       from : ((put.NotFit ≡ put.Memory) ⊎ ((put.NotFit ≡ put.NotFit) × ((write h).fits ≡ false))) → (write h).fits ≡ false
       from (inl other) = absurd cc
-      from (inr no) = no.1
+      from (inr unfit) = unfit.1
 
   pub confirmed_by : {T : Type 0} (view : T → List ℕ) (r : Result T OpenError) (rest : T) → r ≡ Ok rest → Confirms view done bs written r → confirmed write h bs ≡ Some (h, view rest)
   confirmed_by {T} view r rest is confirms =
@@ -100,3 +100,23 @@ module _ (write : Held → Piece) (h : Held) (bs written : List ℕ) (done : Res
       from : Confirms view done bs written (Err e) → Lacks e (confirmed write h bs ≡ None)
       from (inl memory) = inl memory
       from (inr not) = inr (not.0, other not.1)
+
+-- ---- an index, by its two steps
+module _ (count body : Range) (offsets : ℕ → ℕ) (ks : List Reader) (kid : Reader) (write : Held → Piece) (bs : List ℕ) where
+  in_steps : index_read count body offsets (entry_read ks kid) write bs ≡ next (entries_read count body offsets (keyed_read ks kid) bs) (λ h rest. confirmed write h bs)
+  in_steps =
+      index_is count body offsets (entry_read ks kid) write bs
+      ∙ ap (λ (one : List ℕ → Read Entry). next (entries_read count body offsets one bs) (λ h rest. confirmed write h bs)) (sym (entries_are ks kid))
+
+  pub index_unread : (e : OpenError) → Lacks e (entries_read count body offsets (keyed_read ks kid) bs ≡ None) → Lacks e (index_read count body offsets (entry_read ks kid) write bs ≡ None)
+  index_unread e why = lacks_more e (λ none. in_steps ∙ ap (λ (o : Option (Held × List ℕ)). next o (λ h rest. confirmed write h bs)) none) why
+
+  module _ (h : Held) (left written : List ℕ) (done : Result (Unit {0}) PutError) (read : entries_read count body offsets (keyed_read ks kid) bs ≡ Some (h, left)) (put_is : Puts (write h) [] written done) where
+    then_confirmed : index_read count body offsets (entry_read ks kid) write bs ≡ confirmed write h bs
+    then_confirmed = in_steps ∙ next_of _ _ _ _ read
+
+    pub index_confirmed : {T : Type 0} (view : T → List ℕ) (r : Result T OpenError) (rest : T) → r ≡ Ok rest → Confirms view done bs written r → index_read count body offsets (entry_read ks kid) write bs ≡ Some (h, view rest)
+    index_confirmed view r rest is confirms = then_confirmed ∙ confirmed_by write h bs written done put_is view r rest is confirms
+
+    pub index_refused : {T : Type 0} (view : T → List ℕ) (r : Result T OpenError) (e : OpenError) → r ≡ Err e → Confirms view done bs written r → Lacks e (index_read count body offsets (entry_read ks kid) write bs ≡ None)
+    index_refused view r e is confirms = lacks_more e (λ none. then_confirmed ∙ none) (not_confirmed write h bs written done put_is view r e is confirms)

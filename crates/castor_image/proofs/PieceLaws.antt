@@ -12,7 +12,7 @@ first_holds : (a b : Bool) → a ≡ true → (a && b) ≡ b
 first_holds true b is = refl
 first_holds false b is = absurd cc
 
-first_fails : (a b : Bool) → a ≡ false → (a && b) ≡ false
+pub first_fails : (a b : Bool) → a ≡ false → (a && b) ≡ false
 first_fails true b is = absurd cc
 first_fails false b is = refl
 

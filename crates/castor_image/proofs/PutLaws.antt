@@ -41,10 +41,10 @@ filled body at first offsets p old room out new r at_is first_is holds out_is = 
     long = let all = ap length out_is ∙ length-append (old ++ room) p.bytes in omega arith
 
     front : take at out ≡ old
-    front = ap (take at) (out_is ∙ append_assoc old room p.bytes) ∙ take_at old (room ++ p.bytes) at at_is
+    front = ap (take at) (out_is ∙ append_assoc old room p.bytes) ∙ take_at old (room ++ p.bytes) at (sym at_is)
 
     back : drop first out ≡ p.bytes
-    back = ap (drop first) out_is ∙ drop_at (old ++ room) p.bytes first first_is
+    back = ap (drop first) out_is ∙ drop_at (old ++ room) p.bytes first (sym first_is)
 
     fields : List ℕ
     fields = offset_fields body offsets
@@ -57,4 +57,4 @@ filled body at first offsets p old room out new r at_is first_is holds out_is = 
           ∙ ap (λ xs. old ++ ((ranged_field body (length p.bytes) ++ fields) ++ xs)) back
           ∙ ap (λ xs. old ++ xs) (append_assoc (ranged_field body (length p.bytes)) fields p.bytes),
     )
-    by (Err e) why = why_more e (λ no. first_fails (within body (length p.bytes)) p.fits (ap (within body) (sym long) ∙ no)) why
+    by (Err e) why = why_more e (λ out_of. first_fails (within body (length p.bytes)) p.fits (ap (within body) (sym long) ∙ out_of)) why

@@ -63,7 +63,7 @@ front_size p out old first is so = let all = ap length so.bytes ∙ length-appen
 
 -- a run of which a front doesn't fit
 pub run_refused : (p q r all : Piece) → all ≡ both (both p q) r → q.fits ≡ false → all.fits ≡ false
-run_refused p q r all is no = ap (λ (x : Piece). x.fits) is ∙ first_fails (both p q).fits r.fits (second_fails p.fits q.fits no)
+run_refused p q r all is unfit = ap (λ (x : Piece). x.fits) is ∙ first_fails (both p q).fits r.fits (second_fails p.fits q.fits unfit)
 
 -- no front of a run is longer than the run
 longer : (p q all : Piece) → all ≡ both p q → length p.bytes ≤ length all.bytes
@@ -72,7 +72,7 @@ longer p q all is = let long = ap (λ (x : Piece). length x.bytes) is ∙ length
 -- ---- entries as they come
 module _ (write : Entry → Piece) (es : List Entry) where
   pub entry_starts-within : All (λ o. o ≤ length (one_after_other write es).bytes) (entry_starts write es)
-  entry_starts-within = All-map (λ o. o ≤ length (one_after_other write es).bytes) (λ i. size write (take i es)) (places (length es)) (λ k d inside. longer _ _ _ (run-front write es (get_or (places (length es)) k d)))
+  entry_starts-within = All-map (λ o. o ≤ length (one_after_other write es).bytes) (λ i. size write (take i es)) (places (length es)) (λ k d inside. longer (one_after_other write (take (get_or (places (length es)) k d) es)) (one_after_other write (drop (get_or (places (length es)) k d) es)) (one_after_other write es) (run-front write es (get_or (places (length es)) k d)))
 
   pub entry_starts-more : (i : ℕ) (starts new : List ℕ) (start : ℕ) → starts ≡ map (λ j. size write (take j es)) (places i) → start ≡ size write (take i es) → new ≡ starts ++ start ∷ [] → new ≡ map (λ j. size write (take j es)) (places (i + 1))
   entry_starts-more i starts new start so is pushed =
@@ -89,7 +89,7 @@ module _ (write : Entry → Piece) (es : List Entry) where
       (let none : b + 0 ≡ b = omega arith in subst (λ n. size write (in_buckets b es) ≤ size write (in_buckets n es)) (sym none) (omega arith))
       (λ c rest.
       let more : b + (c + 1) ≡ b + c + 1 = omega arith in
-      let up : size write (in_buckets (b + c) es) ≤ size write (in_buckets (b + c + 1) es) = longer _ _ _ (buckets_next (b + c)) in
+      let up : size write (in_buckets (b + c) es) ≤ size write (in_buckets (b + c + 1) es) = longer (one_after_other write (in_buckets (b + c) es)) (one_after_other write (filter (λ e. eqb (bucket_of (bucket_count (length es)) e) (b + c)) es)) (one_after_other write (in_buckets (b + c + 1) es)) (buckets_next (b + c)) in
       subst (λ n. size write (in_buckets b es) ≤ size write (in_buckets n es)) (sym more) (omega arith))
 
   size_within : (b : ℕ) → b ≤ bucket_count (length es) → size write (in_buckets b es) ≤ length (one_after_other write (bucketed es)).bytes

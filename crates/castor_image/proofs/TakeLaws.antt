@@ -44,7 +44,7 @@ module _ {K X S : Type 0} (all : List K → S → Option (List X × S)) (one : K
     pub turn_stopped : (due : Option (List X × S)) (xs : List X) (ks : List K) (i : ℕ) (k : K) (s : S) (e : OpenError) → due ≡ behind xs (all (drop i ks) s) → i < length ks → k ≡ get_or ks i k
         → Lacks e (one k s ≡ None) → Lacks e (due ≡ None)
     turn_stopped due xs ks i k s e so lt is why =
-        lacks_more e (λ no. so ∙ ap (behind xs) (turn_next ks i k s lt is ∙ ap (λ (o : Option (X × S)). next o (λ x t. next (all (drop (i + 1) ks) t) (λ xs u. got (x ∷ xs) u))) no)) why
+        lacks_more e (λ none. so ∙ ap (behind xs) (turn_next ks i k s lt is ∙ ap (λ (o : Option (X × S)). next o (λ x t. next (all (drop (i + 1) ks) t) (λ xs u. got (x ∷ xs) u))) none)) why
 
   pub turn_done : ((s : S) → all [] s ≡ Some ([], s)) → (due : Option (List X × S)) (xs : List X) (ks : List K) (i : ℕ) (s : S) → due ≡ behind xs (all (drop i ks) s) → length ks ≤ i → due ≡ Some (xs, s)
   turn_done none due xs ks i s so le =

@@ -98,9 +98,9 @@ frame_taken bs rest f is =
       bytes =
           first.1
           ∙ ap (λ xs. magic ++ xs) (head.1 ∙ ap (λ xs. head_bytes b.first ++ xs) (
-            short.1 ∙ ap (λ n. length_field n ++ c.left) (sym code.0) ∙ ap (λ xs. length_field (length e.first) ++ xs) (
-              small.1 ∙ ap (λ n. length_field n ++ d.left) (sym stored.0) ∙ ap (λ xs. length_field (length g.first) ++ xs) (
-                code.1 ∙ ap (λ xs. e.first ++ xs) stored.1))))
+          short.1 ∙ ap (λ n. length_field n ++ c.left) (sym code.0) ∙ ap (λ xs. length_field (length e.first) ++ xs) (
+          small.1 ∙ ap (λ n. length_field n ++ d.left) (sym stored.0) ∙ ap (λ xs. length_field (length g.first) ++ xs) (
+          code.1 ∙ ap (λ xs. e.first ++ xs) stored.1))))
           ∙ sym (framed_moved b.first e.first g.first g.left);
     } in
     subst (λ (s : List ℕ). Framed f bs s) found.1 (subst (λ (x : Frame). Framed x bs g.left) found.0 made)

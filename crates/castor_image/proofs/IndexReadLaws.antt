@@ -36,7 +36,7 @@ key_is : (ks : List Reader) (bs : List ℕ) → key_read ks bs ≡ next (in_orde
 key_is [] bs = refl
 key_is (k ∷ ks) bs = by (λ rest. key_is ks rest) (k bs)
   where
-    by : ((rest : List ℕ) → key_read ks rest ≡ next (in_order ks rest) (λ hs rest. got (map value_of_held hs) rest)) → (o : Option (Held × List ℕ)) → next o (λ h rest. next (key_read ks rest) (λ vs more. got (value_of_held h ∷ vs) more)) ≡ next (next o (λ h rest. next (in_order ks rest) (λ hs more. got (h ∷ hs) more))) (λ hs rest. got (map value_of_held hs) rest)
+    by : ((rest : List ℕ) → key_read ks rest ≡ next (in_order ks rest) (λ hs rest. got (map value_of_held hs) rest)) → (o : Option (Held × List ℕ)) → next (next o (λ h rest. got (value_of_held h) rest)) (λ v rest. next (key_read ks rest) (λ vs more. got (v ∷ vs) more)) ≡ next (next o (λ h rest. next (in_order ks rest) (λ hs more. got (h ∷ hs) more))) (λ hs rest. got (map value_of_held hs) rest)
     by others None = refl
     by others (Some p) = ap (λ (o : Option (Row × List ℕ)). next o (λ vs more. got (value_of_held p.0 ∷ vs) more)) (others p.1) ∙ key_behind p.0 (in_order ks p.1)
 

@@ -1,6 +1,7 @@
 -- The values of keys, as the parts that they are.
-use Rattle.std.proofs.Common.{◌≡◌, ◌∙◌, List, [], ◌∷◌, map, Some, None, ap, sym, refl}
+use Rattle.std.proofs.Common.{◌≡◌, ◌∙◌, ℕ, suc, List, [], ◌∷◌, ◌++◌, length, map, Result, Some, None, true, false, ap, sym, refl}
 use Rattle.castor_val.specs.declared.value.Value.{Value}
+use Rattle.castor_alg.specs.declared.held.Entry.{Entry}
 use Rattle.castor_alg.specs.declared.held.Held.{Held, Leaf, out-roll-Held}
 use Rattle.castor_alg.specs.declared.held.Held.TheVariants.{rolls-Leaf}
 use Rattle.castor_alg.specs.declared.held.Held.TheOpen as F
@@ -13,7 +14,10 @@ use Rattle.castor_code.specs.Pieces.{Piece, both, int_piece, bool_piece, text_pi
 use Rattle.castor_code.specs.Directories.{entry_piece, hash_piece, ord_piece}
 use Rattle.castor_code.specs.Data.{Format, format, format_step, writers}
 use Rattle.castor_code.proofs.ShapeLaws.{leaf_of-Leaf}
-use Rattle.castor_image.specs.Puts.{value_layer, value_piece, values_piece}
+use Rattle.castor_image.specs.declared.writing.PutError.{PutError}
+use Rattle.castor_image.specs.Puts.{Puts, entry_by, value_layer, value_piece, values_piece}
+use Rattle.castor_image.proofs.PieceLaws.{first_fails}
+use Rattle.castor_image.proofs.PutLaws.{Why, second_fails, then_put, why_more}
 
 no_parts : (v : Value) → parts_of (Leaf v) ≡ None
 no_parts v = ap parts_of (sym (rolls-Leaf v)) ∙ ap parts_in (out-roll-Held (F.Leaf v))
@@ -55,3 +59,30 @@ values_are [] [] = refl
 values_are [] (v ∷ vs) = refl
 values_are (c ∷ cs) [] = refl
 values_are (c ∷ cs) (v ∷ vs) = λ i. both (value_is c v i) (values_are cs vs i)
+
+-- a key has as many values as codes
+pub values_apart : (cs : List Code) (vs : List Value) → (length cs ≡ length vs → ⊥) → (values_piece cs vs).fits ≡ false
+values_apart [] [] apart = absurd (apart refl)
+values_apart [] (v ∷ vs) apart = refl
+values_apart (c ∷ cs) [] apart = refl
+values_apart (c ∷ cs) (v ∷ vs) apart = second_fails (value_piece c v).fits (values_piece cs vs).fits (values_apart cs vs (λ same. apart (ap suc same)))
+
+-- and a combination has as many parts as kids
+pub sides_apart : (cs : List Code) (hs : List Held) → (length cs ≡ length hs → ⊥) → (side_by_side (writers (map format cs)) hs).fits ≡ false
+sides_apart [] [] apart = absurd (apart refl)
+sides_apart [] (h ∷ hs) apart = refl
+sides_apart (c ∷ cs) [] apart = refl
+sides_apart (c ∷ cs) (h ∷ hs) apart = second_fails ((format c).write h).fits (side_by_side (writers (map format cs)) hs).fits (sides_apart cs hs (λ same. apart (ap suc same)))
+
+-- an entry is put as its key, and then its child
+module _ (key : List Code) (kid : Code) (e : Entry) (slice : List Value) (same : slice ≡ e.key) where
+  key_is : side_by_side (writers (map format key)) (map Leaf e.key) ≡ values_piece key slice
+  key_is = values_are key e.key ∙ ap (values_piece key) (sym same)
+
+  pub entry_put : (old mid new : List ℕ) (r : Result (Unit {0}) PutError) → ((values_piece key slice).fits ≡ true) × (mid ≡ old ++ (values_piece key slice).bytes) → Puts ((format kid).write e.kid) mid new r → Puts (entry_by key kid e) old new r
+  entry_put old mid new r put more =
+      then_put (side_by_side (writers (map format key)) (map Leaf e.key)) ((format kid).write e.kid) old mid new r
+      (ap (λ (p : Piece). p.fits) key_is ∙ put.0) (put.1 ∙ ap (λ (p : Piece). old ++ p.bytes) (sym key_is)) more
+
+  pub entry_refused : (err : PutError) → Why err ((values_piece key slice).fits ≡ false) → Why err ((entry_by key kid e).fits ≡ false)
+  entry_refused err why = why_more err (λ unfit. first_fails (side_by_side (writers (map format key)) (map Leaf e.key)).fits ((format kid).write e.kid).fits (ap (λ (p : Piece). p.fits) key_is ∙ unfit)) why

@@ -6,6 +6,7 @@ pub mod ImageLaws
 pub mod IndexReadLaws
 pub mod KeyPutLaws
 pub mod PieceLaws
+pub mod PlanLaws
 pub mod PutLaws
 pub mod RunLaws
 pub mod SortLaws

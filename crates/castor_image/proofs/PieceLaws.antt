@@ -41,3 +41,17 @@ module _ {X : Type 0} (write : X → Piece) where
 
   pub others_end : (xs : List X) (i : ℕ) → length xs ≤ i → one_after_other write (drop i xs) ≡ empty_piece
   others_end xs i le = ap (one_after_other write) (drop_all i xs le)
+
+-- the pieces of pairs, one of a list and one of another
+module _ {K V : Type 0} (all : List K → List V → Piece) (one : K → V → Piece) where
+  pub pairs_next : ((k : K) (ks : List K) (v : V) (vs : List V) → all (k ∷ ks) (v ∷ vs) ≡ both (one k v) (all ks vs)) → (ks : List K) (vs : List V) (i : ℕ) (k : K) (v : V)
+      → i < length ks → i < length vs → k ≡ get_or ks i k → v ≡ get_or vs i v → all (drop i ks) (drop i vs) ≡ both (one k v) (all (drop (i + 1) ks) (drop (i + 1) vs))
+  pairs_next turns ks vs i k v in_ks in_vs is is_v =
+      ap (λ (xs : List K). all xs (drop i vs)) (drop_more ks i k in_ks)
+      ∙ ap (λ (ys : List V). all (get_or ks i k ∷ drop (i + 1) ks) ys) (drop_more vs i v in_vs)
+      ∙ turns (get_or ks i k) (drop (i + 1) ks) (get_or vs i v) (drop (i + 1) vs)
+      ∙ ap (λ (j : K). both (one j (get_or vs i v)) (all (drop (i + 1) ks) (drop (i + 1) vs))) (sym is)
+      ∙ ap (λ (w : V). both (one k w) (all (drop (i + 1) ks) (drop (i + 1) vs))) (sym is_v)
+
+  pub pairs_end : all [] [] ≡ empty_piece → (ks : List K) (vs : List V) (i : ℕ) → length ks ≤ i → length vs ≤ i → all (drop i ks) (drop i vs) ≡ empty_piece
+  pairs_end none ks vs i end_ks end_vs = ap (λ (xs : List K). all xs (drop i vs)) (drop_all i ks end_ks) ∙ ap (all []) (drop_all i vs end_vs) ∙ none

@@ -1,13 +1,16 @@
 -- What is put: one piece after the other, and a front that is filled in once its body stands.
-use Rattle.std.proofs.Common.{◌≡◌, ◌∙◌, ◌⊎◌, inl, inr, ℕ, ◌+◌, ◌-◌, List, [], ◌++◌, take, drop, length, Bool, true, false, ◌&&◌, Result, Ok, Err, ap, sym, refl, arith, append_assoc, length-append}
+use Rattle.std.proofs.Common.{◌≡◌, ◌∙◌, ◌⊎◌, inl, inr, ℕ, ◌+◌, ◌-◌, ◌*◌, List, [], ◌∷◌, ◌++◌, replicate, take, drop, length, Bool, true, false, ◌&&◌, Result, Ok, Err, ap, sym, refl, arith, append_assoc, length-append}
 use Rattle.std.proofs.lemmas.Bool.{and_from}
-use Rattle.std.proofs.lemmas.List.{take_at, drop_at}
+use Rattle.std.proofs.lemmas.List.{take_at, drop_at, replicate-append-replicate}
+use Rattle.std.proofs.Math.Nat.{suc-mul, zero-mul}
 use Rattle.castor_code.specs.declared.code.Range.{Range}
 use Rattle.castor_code.specs.Directories.{offset_fields}
 use Rattle.castor_code.specs.Pieces.{Piece, both, ranged_field, within}
 use Rattle.castor_image.specs.declared.writing.PutError.{PutError}
 use Rattle.castor_image.specs.declared.writing.PutError.TheVariants.{NotFit, Memory}
-use Rattle.castor_image.specs.Puts.{Done, Fills, Puts, directed_piece}
+use Rattle.castor_fixed.specs.Fields.{field, width}
+use Rattle.castor_fixed.proofs.FieldLaws.{length-field}
+use Rattle.castor_image.specs.Puts.{Done, Fills, Puts, directed_piece, front_width}
 use Rattle.castor_image.proofs.PieceLaws.{first_fails}
 
 pub second_fails : (a b : Bool) → b ≡ false → (a && b) ≡ false
@@ -58,3 +61,38 @@ filled body at first offsets p old room out new r at_is first_is holds out_is = 
           ∙ ap (λ xs. old ++ xs) (append_assoc (ranged_field body (length p.bytes)) fields p.bytes),
     )
     by (Err e) why = why_more e (λ out_of. first_fails (within body (length p.bytes)) p.fits (ap (within body) (sym long) ∙ out_of)) why
+
+-- ---- fronts
+offsets_long : (body : Range) (offsets : List ℕ) → length (offset_fields body offsets) ≡ length offsets * width body.hi
+offsets_long body [] = sym (zero-mul (width body.hi))
+offsets_long body (x ∷ xs) =
+    let one : length (field body.hi x) ≡ width body.hi = length-field body.hi x in
+    let all = length-append (field body.hi x) (offset_fields body xs) in
+    let rest = offsets_long body xs in
+    let more = suc-mul (length xs) (width body.hi) in
+    omega arith
+
+pub front_long : (body : Range) (n : ℕ) (offsets : List ℕ) → length (ranged_field body n ++ offset_fields body offsets) ≡ front_width body (length offsets)
+front_long body n offsets =
+    let all = length-append (ranged_field body n) (offset_fields body offsets) in
+    let first : length (ranged_field body n) ≡ width (body.hi - body.lo) = length-field (body.hi - body.lo) (n - body.lo) in
+    let rest = offsets_long body offsets in
+    omega arith
+
+-- a front that was put into a list of its own
+pub front_put : (body : Range) (m n : ℕ) (offsets none one two slice : List ℕ) → none ≡ [] → one ≡ none ++ ranged_field body m → m ≡ n → two ≡ one ++ offset_fields body offsets → slice ≡ two → slice ≡ ranged_field body n ++ offset_fields body offsets
+front_put body m n offsets none one two slice empty first same second is =
+    is ∙ second ∙ ap (λ xs. xs ++ offset_fields body offsets) (first ∙ ap (λ xs. xs ++ ranged_field body m) empty ∙ ap (ranged_field body) same)
+
+-- and was written over its room
+pub fill_is : (body : Range) (n at first : ℕ) (offsets old slice new : List ℕ) → slice ≡ ranged_field body n ++ offset_fields body offsets → at + front_width body (length offsets) ≡ first
+    → new ≡ take at old ++ (slice ++ drop (at + length slice) old) → new ≡ take at old ++ ((ranged_field body n ++ offset_fields body offsets) ++ drop first old)
+fill_is body n at first offsets old slice new is room wrote =
+    let end : at + length slice ≡ first = let long = ap length is ∙ front_long body n offsets in omega arith in
+    wrote ∙ ap (λ k. take at old ++ (slice ++ drop k old)) end ∙ ap (λ xs. take at old ++ (xs ++ drop first old)) is
+
+-- room for two parts
+pub room_put : (old mid new : List ℕ) (a b m n : ℕ) → a ≡ m → b ≡ n → mid ≡ old ++ replicate a 0 → new ≡ mid ++ replicate b 0 → new ≡ old ++ replicate (m + n) 0
+room_put old mid new a b m n is_a is_b first second =
+    second ∙ ap (λ xs. xs ++ replicate b 0) first ∙ append_assoc old (replicate a 0) (replicate b 0)
+    ∙ ap (λ xs. old ++ xs) (replicate-append-replicate a b 0) ∙ (λ i. old ++ replicate (is_a i + is_b i) 0)

@@ -1,5 +1,5 @@
 -- Runs of pieces: their fronts, and where each begins.
-use Rattle.std.proofs.Common.{◌≡◌, ◌∙◌, ℕ, ◌+◌, ◌-◌, ◌<◌, ◌≤◌, All, List, [], ◌∷◌, ◌++◌, eqb, filter, map, take, drop, length, get_or, Bool, true, false, ◌&&◌, subst, ap, sym, refl, arith, append_assoc, append-nil, length-append}
+use Rattle.std.proofs.Common.{◌≡◌, ◌∙◌, ℕ, ◌+◌, ◌-◌, ◌<◌, ◌≤◌, All, List, [], ◌∷◌, ◌++◌, eqb, filter, map, take, drop, length, get_or, Bool, true, false, ◌&&◌, Result, Option, Some, None, subst, ap, sym, refl, arith, append_assoc, append-nil, length-append}
 use Rattle.std.specs.List.{flat_map, range_with_len}
 use Rattle.std.proofs.lemmas.Bool.{and_parts, and_from}
 use Rattle.std.proofs.lemmas.List.{take-append-drop, take_all}
@@ -11,7 +11,14 @@ use Rattle.castor_code.specs.Pieces.{Piece, both, empty_piece, one_after_other}
 use Rattle.castor_dir.specs.Buckets.{bucket_count, by_bucket, places}
 use Rattle.castor_dir.proofs.DirectoryLaws.{by_bucket-next, each_number}
 use Rattle.castor_image.proofs.PieceLaws.{first_fails}
-use Rattle.castor_image.proofs.PutLaws.{second_fails}
+use Rattle.castor_alg.specs.declared.held.Held.{Held}
+use Rattle.castor_code.specs.Pieces.{parts_piece}
+use Rattle.castor_image.specs.declared.writing.PutError.{PutError}
+use Rattle.castor_image.specs.Puts.{Puts, first_piece, second_piece}
+use Rattle.castor_image.proofs.PutLaws.{Why, second_fails, then_put, why_more}
+
+false_true : false ≡ true → ⊥
+false_true is = absurd cc
 
 and-assoc : (a b c : Bool) → (a && (b && c)) ≡ ((a && b) && c)
 and-assoc true b c = refl
@@ -60,6 +67,9 @@ front_more p q all old out new is so holds put = record {
 -- how far it reaches
 pub front_size : (p : Piece) (out old : List ℕ) (first : ℕ) → first ≡ length old → Front p out old → length out - first ≡ length p.bytes
 front_size p out old first is so = let all = ap length so.bytes ∙ length-append old p.bytes in omega arith
+
+pub front_reach : (p : Piece) (out old : List ℕ) (first : ℕ) → first ≡ length old → Front p out old → first ≤ length out
+front_reach p out old first is so = let all = ap length so.bytes ∙ length-append old p.bytes in omega arith
 
 -- a run of which a front doesn't fit
 pub run_refused : (p q r all : Piece) → all ≡ both (both p q) r → q.fits ≡ false → all.fits ≡ false
@@ -110,3 +120,26 @@ module _ (write : Entry → Piece) (es : List Entry) where
   bucket_starts-more b starts new start so is pushed =
       pushed ∙ ap (λ (xs : List ℕ). xs ++ start ∷ []) so ∙ ap (λ n. map (λ c. size write (in_buckets c es)) (range_with_len 0 b) ++ n ∷ []) is
       ∙ sym (map-range_with_len_more (λ c. size write (in_buckets c es)) 0 b b (omega arith))
+
+-- ---- two parts
+module _ (a b : Held → Piece) where
+  pub pair_put : (o : Option (List Held)) (old mid new : List ℕ) (r : Result (Unit {0}) PutError) → ((first_piece a o).fits ≡ true) × (mid ≡ old ++ (first_piece a o).bytes) → Puts (second_piece b o) mid new r → Puts (parts_piece (a ∷ b ∷ []) o) old new r
+  pair_put None old mid new r put more = absurd (false_true put.0)
+  pair_put (Some []) old mid new r put more = absurd (false_true put.0)
+  pair_put (Some (h ∷ [])) old mid new r put more = absurd (false_true put.0)
+  pair_put (Some (h ∷ g ∷ [])) old mid new r put more = then_put (a h) (both (b g) empty_piece) old mid new r put.0 put.1 (subst (λ (p : Piece). Puts p mid new r) (sym (both-empty (b g))) more)
+  pair_put (Some (h ∷ g ∷ f ∷ hs)) old mid new r put more = absurd (false_true put.0)
+
+  unfit_pair : (o : Option (List Held)) → (first_piece a o).fits ≡ false → (parts_piece (a ∷ b ∷ []) o).fits ≡ false
+  unfit_pair None unfit = refl
+  unfit_pair (Some []) unfit = refl
+  unfit_pair (Some (h ∷ [])) unfit = second_fails (a h).fits false refl
+  unfit_pair (Some (h ∷ g ∷ [])) unfit = first_fails (a h).fits (both (b g) empty_piece).fits unfit
+  unfit_pair (Some (h ∷ g ∷ f ∷ hs)) unfit = second_fails (a h).fits ((b g).fits && false) (second_fails (b g).fits false refl)
+
+  pub pair_refused : (o : Option (List Held)) (e : PutError) → Why e ((first_piece a o).fits ≡ false) → Why e ((parts_piece (a ∷ b ∷ []) o).fits ≡ false)
+  pair_refused o e why = why_more e (unfit_pair o) why
+
+-- ---- a body behind its room
+pub body_long : (p : Piece) (old room out : List ℕ) (first : ℕ) → first ≡ length (old ++ room) → out ≡ (old ++ room) ++ p.bytes → length out - first ≡ length p.bytes
+body_long p old room out first is put = let all = ap length put ∙ length-append (old ++ room) p.bytes in omega arith

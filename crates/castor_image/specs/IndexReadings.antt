@@ -1,6 +1,7 @@
 -- Indexes read from the front of bytes, in two steps: their entries, and then whether the bytes are those of these.
 use Rattle.std.specs.Prelude.{◌≡◌, ◌⊎◌, ℕ, ◌*◌, List, [], ◌∷◌, drop, length, Option, Some, Result, Ok, Err, MatchResult, true, false}
 use Rattle.castor_val.specs.declared.row.Row.{Row}
+use Rattle.castor_val.specs.declared.value.Value.{Value}
 use Rattle.castor_alg.specs.declared.held.Entry.{Entry}
 use Rattle.castor_alg.specs.declared.held.Held.{Held, Keyed}
 use Rattle.castor_alg.specs.Sorting.{sorted}
@@ -15,10 +16,14 @@ use Rattle.castor_image.specs.declared.error.OpenError.TheVariants.{NotImage, Me
 use Rattle.castor_image.specs.declared.writing.PutError.{PutError}
 use Rattle.castor_image.specs.declared.writing.PutError.TheVariants as put
 
+-- a value of a key
+abbrev pub value_read : Reader → List ℕ → Read Value
+value_read one bs = next (one bs) (λ h rest. Some (value_in (leaf_of h), rest))
+
 -- the values of a key
 abbrev pub key_read : List Reader → List ℕ → Read Row
 key_read [] bs = Some ([], bs)
-key_read (k ∷ ks) bs = next (k bs) (λ h rest. next (key_read ks rest) (λ vs more. Some (value_in (leaf_of h) ∷ vs, more)))
+key_read (k ∷ ks) bs = next (value_read k bs) (λ v rest. next (key_read ks rest) (λ vs more. Some (v ∷ vs, more)))
 
 -- the values of a key, then a child
 abbrev pub keyed_read : List Reader → Reader → List ℕ → Read Entry

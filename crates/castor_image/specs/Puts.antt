@@ -1,7 +1,8 @@
 -- What calls that put pieces at the end of bytes give.
-use Rattle.std.specs.Prelude.{◌≡◌, ◌⊎◌, ℕ, ◌+◌, ◌-◌, ◌*◌, List, [], ◌∷◌, ◌++◌, take, drop, length, map, Some, Result, MatchResult, true, false}
+use Rattle.std.specs.Prelude.{◌≡◌, ◌⊎◌, ℕ, ◌+◌, ◌-◌, ◌*◌, List, [], ◌∷◌, ◌++◌, take, drop, length, map, Option, Some, None, Result, MatchResult, true, false}
 use Rattle.std.specs.List.{flat_map}
 use Rattle.castor_alg.specs.declared.held.Entry.{Entry}
+use Rattle.castor_alg.specs.declared.held.Held.{Held}
 use Rattle.castor_val.specs.declared.value.Value.{Value}
 use Rattle.castor_code.specs.declared.code.Code.{Code, out-Code}
 use Rattle.castor_code.specs.declared.code.Code.TheOpen.{Code-F}
@@ -83,3 +84,18 @@ values_piece [] [] = empty_piece
 values_piece [] (v ∷ vs) = no_piece
 values_piece (c ∷ cs) [] = no_piece
 values_piece (c ∷ cs) (v ∷ vs) = both (value_piece c v) (values_piece cs vs)
+
+-- the first of two parts, and the second
+abbrev pub first_piece : (Held → Piece) → Option (List Held) → Piece
+first_piece write None = no_piece
+first_piece write (Some []) = no_piece
+first_piece write (Some (h ∷ [])) = no_piece
+first_piece write (Some (h ∷ g ∷ [])) = write h
+first_piece write (Some (h ∷ g ∷ f ∷ hs)) = no_piece
+
+abbrev pub second_piece : (Held → Piece) → Option (List Held) → Piece
+second_piece write None = no_piece
+second_piece write (Some []) = no_piece
+second_piece write (Some (h ∷ [])) = no_piece
+second_piece write (Some (h ∷ g ∷ [])) = write g
+second_piece write (Some (h ∷ g ∷ f ∷ hs)) = no_piece

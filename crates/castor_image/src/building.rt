@@ -33,12 +33,7 @@ pub fn build(alloc: Global, head: &Head, code: &Code, held: &Held) -> Result<Vec
 
 /// The lengths of the code and of the data, the code, and the data. The length of the data is filled in once
 /// it stands.
-fn put_sections(
-    alloc: Global,
-    image: &mut Vec<u8>,
-    code: &Code,
-    held: &Held,
-) -> Result<(), Memory>
+fn put_sections(alloc: Global, image: &mut Vec<u8>, code: &Code, held: &Held) -> Result<(), Memory>
     requires code { is_well_formed code.now ≡ true }
     requires held { fits code.now held.now ≡ true }
     ensures { OnOk result (image.new.items ≡ image.old.items ++ sections (code_bytes code.now) (data_of code.now held.now)) }
@@ -61,12 +56,7 @@ fn put_length(image: &mut Vec<u8>, length: usize) -> Result<(), Memory>
 }
 
 /// Writes a length over the 8 bytes at a place.
-fn fill_length(
-    alloc: Global,
-    image: &mut Vec<u8>,
-    at: usize,
-    length: usize,
-) -> Result<(), Memory>
+fn fill_length(alloc: Global, image: &mut Vec<u8>, at: usize, length: usize) -> Result<(), Memory>
     requires { at + 8 ≤ vec_len image.old }
     ensures { OnOk result (image.new.items ≡ take at image.old.items ++ (length_field length ++ drop (at + 8) image.old.items)) }
 {
@@ -77,12 +67,7 @@ fn fill_length(
 }
 
 /// The data of held data that fits.
-fn put_fitting(
-    alloc: Global,
-    image: &mut Vec<u8>,
-    code: &Code,
-    held: &Held,
-) -> Result<(), Memory>
+fn put_fitting(alloc: Global, image: &mut Vec<u8>, code: &Code, held: &Held) -> Result<(), Memory>
     requires { fits code.now held.now ≡ true }
     ensures { OnOk result (image.new.items ≡ image.old.items ++ data_of code.now held.now) }
 {

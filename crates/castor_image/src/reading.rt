@@ -68,17 +68,21 @@ impl<'a> Input<'a> {
                 key,
                 kid,
                 ..
-            } => self.hash(alloc, *count, *body, key.as_slice(), kid.get()),
+            } => self.hash(alloc, *count, *body, kid.get(), key.as_slice()),
             Code::Ord {
                 count,
                 body,
                 key,
                 kid,
                 ..
-            } => self.ord(alloc, *count, *body, slice::from_ref(key.get()), kid.get()),
+            } => self.ord(alloc, *count, *body, kid.get(), slice::from_ref(key.get())),
             Code::Select(_, kid) => self.inner(alloc, kid.get()),
             Code::Filter(_, kid) => self.inner(alloc, kid.get()),
-            Code::Dep(_, first, second) => self.pair(alloc, first.get(), second.get()),
+            Code::Dep(_, first, second) => {
+                let a = self.data(alloc, first.get())?;
+                let b = self.data(alloc, second.get())?;
+                Ok(Held::Parts(two(alloc, a, b)?))
+            }
             Code::Group(_, _, kid) => self.inner(alloc, kid.get()),
             Code::Order(_, kid) => self.inner(alloc, kid.get()),
             Code::Dedup(kid) => self.inner(alloc, kid.get()),
@@ -106,16 +110,6 @@ impl<'a> Input<'a> {
             parts.push(part)?;
         }
         Ok(parts)
-    }
-
-    /// The two parts of a dependent join.
-    #[cycle(read)]
-    fn pair(&mut self, alloc: Global, first: &Code, second: &Code) -> Result<Held, OpenError>
-        ensures { Takes (λ h. h) (parts_read (readers (format first.now ∷ format second.now ∷ [])) self.old.rest.now) self.new.rest.now result }
-    {
-        let a = self.data(alloc, first)?;
-        let b = self.data(alloc, second)?;
-        Ok(Held::Parts(two(alloc, a, b)?))
     }
 
     #[cycle(read)]

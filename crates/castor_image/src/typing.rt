@@ -8,7 +8,7 @@ ghost use Rattle.castor_alg.specs.Typing.{allowed, are_hash_keys, each, extended
 ghost use Rattle.castor_alg.specs.declared.typing.TypeError.TheVariants as error;
 ghost use Rattle.castor_val.specs.declared.value.Ty.TheVariants.{Bool as Truth};
 ghost use Rattle.castor_code.specs.CodeTyping.{code_types};
-ghost use Rattle.castor_image.specs.Types.{hash_types, types_under};
+ghost use Rattle.castor_image.specs.Types.{key_types, looked_up, types_under};
 
 mod lists;
 
@@ -52,11 +52,16 @@ fn types_in(alloc: Global, code: &Code, env: &TypeEnv<'_>) -> Result<Vec<Ty>, Ty
             Err(why) => Err(why),
         },
         Code::List { kid, .. } => types_in(alloc, kid.get(), env),
-        Code::Hash { key, kid, by, .. } => {
-            hash_types(alloc, key.as_slice(), kid.get(), by.as_slice(), env)
-        }
+        Code::Hash { key, kid, by, .. } => match key_columns(alloc, key.as_slice(), env) {
+            Ok(columns) => kid_types(alloc, columns, kid.get(), by.as_slice(), env),
+            Err(why) => Err(why),
+        },
         Code::Ord {
-            key, kid, lo, hi, ..
+            key,
+            kid,
+            lo,
+            hi,
+            ..
         } => {
             let columns = types_in(alloc, key.get(), env)?;
             if is_range(columns.as_slice(), lo, hi, env) {
@@ -94,11 +99,7 @@ fn one(alloc: Global, ty: Ty) -> Result<Vec<Ty>, TypeError>
 
 /// The column types of codes.
 #[cycle(types_in)]
-fn types_of_all(
-    alloc: Global,
-    codes: &[Code],
-    env: &TypeEnv<'_>,
-) -> Result<Vec<Vec<Ty>>, TypeError>
+fn types_of_all(alloc: Global, codes: &[Code], env: &TypeEnv<'_>) -> Result<Vec<Vec<Ty>>, TypeError>
     ensures { Gives (λ all. map (λ types. types.items) all.items) error.Memory (ok_or (each (map (λ code. types_under code (context_of env.now)) codes.now)) error.Ill) result }
 {
     let mut all = Vec::new(alloc);
@@ -111,24 +112,37 @@ fn types_of_all(
     Ok(all)
 }
 
+/// The column types of the codes of a key, one after the other.
+#[cycle(types_in)]
+fn key_columns(alloc: Global, key: &[Code], env: &TypeEnv<'_>) -> Result<Vec<Ty>, TypeError>
+    ensures { Gives (λ types. types.items) error.Memory (ok_or (key_types (each (map (λ code. types_under code (context_of env.now)) key.now))) error.Ill) result }
+{
+    match types_of_all(alloc, key, env) {
+        Ok(operands) => cross_types(alloc, operands.as_slice()),
+        Err(why) => Err(why),
+    }
+}
+
 /// The column types of the kid of a hash index, where what is looked up has the types of the key.
 #[cycle(types_in)]
-fn hash_types(
+fn kid_types(
     alloc: Global,
-    key: &[Code],
+    columns: Vec<Ty>,
     kid: &Code,
     by: &[Expr],
     env: &TypeEnv<'_>,
 ) -> Result<Vec<Ty>, TypeError>
-    ensures { Gives (λ types. types.items) error.Memory (ok_or (hash_types (map types_under key.now) (types_under kid.now) by.now (context_of env.now)) error.Ill) result }
+    ensures { Gives (λ types. types.items) error.Memory (ok_or (looked_up columns.items (types_of_each by.now [] (context_of env.now)) (types_under kid.now (context_of env.now))) error.Ill) result }
 {
-    let operands = types_of_all(alloc, key, env)?;
-    let columns = cross_types(alloc, operands.as_slice())?;
-    let keys = types_of_each(alloc, by, &[], env)?;
-    if are_hash_keys(columns.as_slice(), keys.as_slice()) {
-        types_in(alloc, kid, env)
-    } else {
-        Err(TypeError::Ill)
+    match types_of_each(alloc, by, &[], env) {
+        Ok(keys) => {
+            if are_hash_keys(columns.as_slice(), keys.as_slice()) {
+                types_in(alloc, kid, env)
+            } else {
+                Err(TypeError::Ill)
+            }
+        }
+        Err(why) => Err(why),
     }
 }
 

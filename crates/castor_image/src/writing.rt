@@ -1,10 +1,10 @@
 //! The data of codes, written at the end of bytes.
 
-ghost use Rattle.std.specs.Prelude.{◌≡◌, [], ◌∷◌, map};
+ghost use Rattle.std.specs.Prelude.{◌≡◌, [], map};
 ghost use Rattle.castor_code.specs.Data.{format, writers};
 ghost use Rattle.castor_code.specs.Pieces.{inner_piece, list_piece, one_after_other, parts_piece, side_by_side};
 ghost use Rattle.castor_code.specs.Shapes.{inner_of, parts_of, rows_of};
-ghost use Rattle.castor_image.specs.Puts.{Puts, directed_piece, entry_by, value_piece, values_piece};
+ghost use Rattle.castor_image.specs.Puts.{Puts, directed_piece, entry_by, first_piece, second_piece, value_piece, values_piece};
 
 mod index;
 mod numbers;
@@ -14,14 +14,13 @@ use crate::shapes::{inner, leaf, parts, rows};
 use castor_alg::{Entry, Held};
 use castor_code::{Code, Range};
 use castor_val::{Memory, Value};
+pub use index::{put_hash, put_ord};
+pub use numbers::fill;
 use numbers::{fill_front, put_ranged, reserve_front};
 use std::alloc::{AllocError, AllocFailed, Global};
 use std::slice;
-use values::{put_bool, put_int, put_text};
-
-pub use index::{put_hash, put_ord};
-pub use numbers::fill;
 pub use values::gap;
+use values::{put_bool, put_int, put_text};
 
 /// Why held data isn't put.
 #[derive(Clone, Copy, Debug, PartialEq, Eq)]
@@ -65,12 +64,7 @@ impl<T: Drop> From<AllocFailed<T>> for PutError {
 /// Puts the data of held data at the end. `NotFit` comes exactly where it doesn't fit the code, and else
 /// `Memory`. Linear in the held data and the data.
 #[cycle(put)]
-pub fn put_data(
-    alloc: Global,
-    out: &mut Vec<u8>,
-    code: &Code,
-    held: &Held,
-) -> Result<(), PutError>
+pub fn put_data(alloc: Global, out: &mut Vec<u8>, code: &Code, held: &Held) -> Result<(), PutError>
     ensures { Puts ((format code.now).write held.now) out.old.items out.new.items result }
 {
     match code {
@@ -86,15 +80,7 @@ pub fn put_data(
             key,
             kid,
             ..
-        } => put_hash(
-            alloc,
-            out,
-            *count,
-            *body,
-            key.as_slice(),
-            kid.get(),
-            held,
-        ),
+        } => put_hash(alloc, out, *count, *body, kid.get(), key.as_slice(), held),
         Code::Ord {
             count,
             body,
@@ -106,13 +92,16 @@ pub fn put_data(
             out,
             *count,
             *body,
-            slice::from_ref(key.get()),
             kid.get(),
+            slice::from_ref(key.get()),
             held,
         ),
         Code::Select(_, kid) => put_inner(alloc, out, kid.get(), held),
         Code::Filter(_, kid) => put_inner(alloc, out, kid.get(), held),
-        Code::Dep(_, first, second) => put_pair(alloc, out, first.get(), second.get(), held),
+        Code::Dep(_, first, second) => match put_first(alloc, out, first.get(), held) {
+            Ok(()) => put_second(alloc, out, second.get(), held),
+            Err(why) => Err(why),
+        },
         Code::Group(_, _, kid) => put_inner(alloc, out, kid.get(), held),
         Code::Order(_, kid) => put_inner(alloc, out, kid.get(), held),
         Code::Dedup(kid) => put_inner(alloc, out, kid.get(), held),
@@ -121,12 +110,7 @@ pub fn put_data(
 
 /// The parts, one for each kid.
 #[cycle(put)]
-fn put_parts(
-    alloc: Global,
-    out: &mut Vec<u8>,
-    kids: &[Code],
-    held: &Held,
-) -> Result<(), PutError>
+fn put_parts(alloc: Global, out: &mut Vec<u8>, kids: &[Code], held: &Held) -> Result<(), PutError>
     ensures { Puts (parts_piece (writers (map format kids.now)) (parts_of held.now)) out.old.items out.new.items result }
 {
     match parts(held) {
@@ -148,27 +132,32 @@ fn put_side_by_side(
         return Err(PutError::NotFit);
     }
     for at in 0..kids.len() {
-        put_data(alloc, out, &kids[at], &parts[at])?;
+        match put_data(alloc, out, &kids[at], &parts[at]) {
+            Ok(()) => {}
+            Err(why) => return Err(why),
+        }
     }
     Ok(())
 }
 
-/// The two parts of a dependent join.
+/// The first of the two parts of a dependent join.
 #[cycle(put)]
-fn put_pair(
-    alloc: Global,
-    out: &mut Vec<u8>,
-    first: &Code,
-    second: &Code,
-    held: &Held,
-) -> Result<(), PutError>
-    ensures { Puts (parts_piece (writers (format first.now ∷ format second.now ∷ [])) (parts_of held.now)) out.old.items out.new.items result }
+fn put_first(alloc: Global, out: &mut Vec<u8>, first: &Code, held: &Held) -> Result<(), PutError>
+    ensures { Puts (first_piece (format first.now).write (parts_of held.now)) out.old.items out.new.items result }
 {
     match parts(held) {
-        Some([a, b]) => {
-            put_data(alloc, out, first, a)?;
-            put_data(alloc, out, second, b)
-        }
+        Some([part, _]) => put_data(alloc, out, first, part),
+        _ => Err(PutError::NotFit),
+    }
+}
+
+/// The second of the two parts of a dependent join.
+#[cycle(put)]
+fn put_second(alloc: Global, out: &mut Vec<u8>, second: &Code, held: &Held) -> Result<(), PutError>
+    ensures { Puts (second_piece (format second.now).write (parts_of held.now)) out.old.items out.new.items result }
+{
+    match parts(held) {
+        Some([_, part]) => put_data(alloc, out, second, part),
         _ => Err(PutError::NotFit),
     }
 }
@@ -224,16 +213,14 @@ fn put_body(
 
 /// The children, one after the other.
 #[cycle(put)]
-fn put_rows(
-    alloc: Global,
-    out: &mut Vec<u8>,
-    kid: &Code,
-    rows: &[Held],
-) -> Result<(), PutError>
+fn put_rows(alloc: Global, out: &mut Vec<u8>, kid: &Code, rows: &[Held]) -> Result<(), PutError>
     ensures { Puts (one_after_other (format kid.now).write rows.now) out.old.items out.new.items result }
 {
     for row in rows {
-        put_data(alloc, out, kid, row)?;
+        match put_data(alloc, out, kid, row) {
+            Ok(()) => {}
+            Err(why) => return Err(why),
+        }
     }
     Ok(())
 }
@@ -243,14 +230,16 @@ fn put_rows(
 fn put_entry(
     alloc: Global,
     out: &mut Vec<u8>,
-    key: &[Code],
     kid: &Code,
+    key: &[Code],
     entry: &Entry,
 ) -> Result<(), PutError>
     ensures { Puts (entry_by key.now kid.now entry.now) out.old.items out.new.items result }
 {
-    put_key(out, key, entry.key.as_slice())?;
-    put_data(alloc, out, kid, &entry.kid)
+    match put_key(out, key, entry.key.as_slice()) {
+        Ok(()) => put_data(alloc, out, kid, &entry.kid),
+        Err(why) => Err(why),
+    }
 }
 
 /// The values of a key, one for each code.
@@ -261,7 +250,10 @@ fn put_key(out: &mut Vec<u8>, key: &[Code], values: &[Value]) -> Result<(), PutE
         return Err(PutError::NotFit);
     }
     for at in 0..key.len() {
-        put_value(out, &key[at], &values[at])?;
+        match put_value(out, &key[at], &values[at]) {
+            Ok(()) => {}
+            Err(why) => return Err(why),
+        }
     }
     Ok(())
 }

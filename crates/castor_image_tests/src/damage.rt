@@ -21,11 +21,19 @@ fn with_byte(alloc: Global, bytes: &[u8], at: usize, byte: u8) -> Result<Vec<u8>
 fn no_front_part_of_an_image_is_an_image(rt: HostRuntime) {
     for length in 0..TWO_ROWS.len() {
         let front = &TWO_ROWS.as_slice()[..length];
-        assert_eq!(rt; found(rt.alloc(), front), Opened::NotImage, "the first {length} bytes");
+        assert_eq!(rt;
+            found(rt.alloc(), front),
+            Opened::NotImage,
+            "the first {length} bytes"
+        );
     }
     for length in 0..ORDERS.len() {
         let front = &ORDERS.as_slice()[..length];
-        assert_eq!(rt; found(rt.alloc(), front), Opened::NotImage, "the first {length} bytes");
+        assert_eq!(rt;
+            found(rt.alloc(), front),
+            Opened::NotImage,
+            "the first {length} bytes"
+        );
     }
 }
 

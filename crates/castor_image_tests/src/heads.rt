@@ -1,6 +1,6 @@
 //! Heads at their limits.
 
-use crate::bytes::{Found, found};
+use crate::bytes::{Opened, found};
 use std::alloc::{AllocError, Global};
 use std::process::Abort;
 use std::test::Fail;
@@ -60,13 +60,19 @@ fn heads_are_within_their_limits(rt: HostRuntime) -> Result<(), Fail> {
     for case in cases {
         let bytes = zeros(rt.alloc(), case.0, case.1)?;
         let (params, columns) = (case.0.len(), case.1.len());
-        assert_eq!(rt; found(rt.alloc(), bytes.as_slice()), case.2, "{params} parameters, {columns} columns");
+        assert_eq!(rt;
+            found(rt.alloc(), bytes.as_slice()),
+            case.2,
+            "{params} parameters, {columns} columns"
+        );
     }
     Ok(())
 }
 
 #[test]
-fn names_are_words_of_64_bytes_and_those_of_parameters_are_distinct(rt: HostRuntime) -> Result<(), Fail> {
+fn names_are_words_of_64_bytes_and_those_of_parameters_are_distinct(
+    rt: HostRuntime,
+) -> Result<(), Fail> {
     let cases = [
         ("a", "b", Opened::Same),
         ("a", "a", Opened::NotImage),
@@ -80,7 +86,11 @@ fn names_are_words_of_64_bytes_and_those_of_parameters_are_distinct(rt: HostRunt
     ];
     for (first, second, due) in cases {
         let bytes = zeros(rt.alloc(), &[first, second], &["x"])?;
-        assert_eq!(rt; found(rt.alloc(), bytes.as_slice()), due, "{first}, {second}");
+        assert_eq!(rt;
+            found(rt.alloc(), bytes.as_slice()),
+            due,
+            "{first}, {second}"
+        );
     }
     Ok(())
 }

@@ -1,6 +1,6 @@
 //! Images that are opened: what they hold, and that it is built to the same bytes again.
 
-use crate::bytes::{ORDERS, Opened, TWO_ROWS, held_text, found};
+use crate::bytes::{ORDERS, Opened, TWO_ROWS, found, held_text};
 use castor_code::Code;
 use castor_image::{Head, Image, OpenError, open_image};
 use castor_val::{Column, Ty};

@@ -6,6 +6,8 @@ mod bytes;
 #[cfg(test)]
 mod damage;
 #[cfg(test)]
+mod data;
+#[cfg(test)]
 mod heads;
 #[cfg(test)]
 mod images;

@@ -5,7 +5,7 @@ ghost use Rattle.castor_fixed.specs.Fields.{width};
 ghost use Rattle.castor_code.specs.Data.{format, hash_format, ord_format, readers, stored};
 ghost use Rattle.castor_code.specs.Readings.{hash_offsets, ord_offsets};
 ghost use Rattle.castor_code.specs.Steps.{many};
-ghost use Rattle.castor_image.specs.IndexReadings.{Confirms, entries_read, key_read, keyed_read, sorted_read};
+ghost use Rattle.castor_image.specs.IndexReadings.{Confirms, entries_read, key_read, keyed_read, sorted_read, value_read};
 ghost use Rattle.castor_image.specs.Takes.{Takes};
 
 use super::Input;
@@ -17,7 +17,7 @@ use castor_alg::{Entry, Held};
 use castor_code::{Code, Range};
 use castor_dir::bucket_count;
 use castor_fixed::width;
-use castor_val::Row;
+use castor_val::{Row, Value};
 use sqlite_items::Items;
 use std::alloc::Global;
 
@@ -33,15 +33,15 @@ impl<'a> Input<'a> {
         alloc: Global,
         count: Range,
         body: Range,
-        key: &[Code],
         kid: &Code,
+        key: &[Code],
     ) -> Result<Held, OpenError>
         ensures { Takes (λ h. h) ((hash_format count body (map format key.now) (format kid.now)).read self.old.rest.now) self.new.rest.now result }
     {
         let front = self.rest;
-        let held = self.hash_entries(alloc, count, body, key, kid)?;
+        let held = self.hash_entries(alloc, count, body, kid, key)?;
         let mut bytes = Vec::new(alloc);
-        let put = put_hash(alloc, &mut bytes, count, body, key, kid, &held);
+        let put = put_hash(alloc, &mut bytes, count, body, kid, key, &held);
         match confirmed(front, put, bytes.as_slice()) {
             Ok(rest) => {
                 self.rest = rest;
@@ -58,15 +58,15 @@ impl<'a> Input<'a> {
         alloc: Global,
         count: Range,
         body: Range,
-        key: &[Code],
         kid: &Code,
+        key: &[Code],
     ) -> Result<Held, OpenError>
         ensures { Takes (λ h. h) ((ord_format count body (map format key.now) (format kid.now)).read self.old.rest.now) self.new.rest.now result }
     {
         let front = self.rest;
-        let held = self.ord_entries(alloc, count, body, key, kid)?;
+        let held = self.ord_entries(alloc, count, body, kid, key)?;
         let mut bytes = Vec::new(alloc);
-        let put = put_ord(alloc, &mut bytes, count, body, key, kid, &held);
+        let put = put_ord(alloc, &mut bytes, count, body, kid, key, &held);
         match confirmed(front, put, bytes.as_slice()) {
             Ok(rest) => {
                 self.rest = rest;
@@ -83,8 +83,8 @@ impl<'a> Input<'a> {
         alloc: Global,
         count: Range,
         body: Range,
-        key: &[Code],
         kid: &Code,
+        key: &[Code],
     ) -> Result<Held, OpenError>
         ensures { Takes (λ h. h) (entries_read count body hash_offsets (keyed_read (readers (map format key.now)) (stored kid.now)) self.old.rest.now) self.new.rest.now result }
     {
@@ -94,7 +94,7 @@ impl<'a> Input<'a> {
             return Err(OpenError::Memory);
         }
         self.skip_offsets(body, bucket_count(number) + 1);
-        let entries = self.entries(alloc, key, kid, number)?;
+        let entries = self.entries(alloc, kid, key, number)?;
         Ok(Held::Keyed(Items::from_vec(entries)))
     }
 
@@ -105,15 +105,15 @@ impl<'a> Input<'a> {
         alloc: Global,
         count: Range,
         body: Range,
-        key: &[Code],
         kid: &Code,
+        key: &[Code],
     ) -> Result<Held, OpenError>
         ensures { Takes (λ h. h) (entries_read count body ord_offsets (keyed_read (readers (map format key.now)) (stored kid.now)) self.old.rest.now) self.new.rest.now result }
     {
         let number = self.ranged(count)?;
         let _length = self.ranged(body)?;
         self.skip_offsets(body, number);
-        let entries = self.entries(alloc, key, kid, number)?;
+        let entries = self.entries(alloc, kid, key, number)?;
         Ok(Held::Keyed(Items::from_vec(entries)))
     }
 
@@ -134,13 +134,13 @@ impl<'a> Input<'a> {
     fn entries(
         &mut self,
         alloc: Global,
-        key: &[Code],
         kid: &Code,
+        key: &[Code],
         number: u64,
     ) -> Result<Vec<Entry>, OpenError>
         ensures { Takes (λ es. es.items) (sorted_read number (keyed_read (readers (map format key.now)) (stored kid.now)) self.old.rest.now) self.new.rest.now result }
     {
-        let mut entries = self.many_entries(alloc, key, kid, number)?;
+        let mut entries = self.many_entries(alloc, kid, key, number)?;
         sort_by_key(&mut entries)?;
         Ok(entries)
     }
@@ -150,15 +150,15 @@ impl<'a> Input<'a> {
     fn many_entries(
         &mut self,
         alloc: Global,
-        key: &[Code],
         kid: &Code,
+        key: &[Code],
         number: u64,
     ) -> Result<Vec<Entry>, OpenError>
         ensures { Takes (λ es. es.items) (many number (keyed_read (readers (map format key.now)) (stored kid.now)) self.old.rest.now) self.new.rest.now result }
     {
         let mut entries = Vec::new(alloc);
         for _ in 0..number {
-            let entry = match self.entry(alloc, key, kid) {
+            let entry = match self.entry(alloc, kid, key) {
                 Ok(entry) => entry,
                 Err(why) => return Err(why),
             };
@@ -169,7 +169,7 @@ impl<'a> Input<'a> {
 
     /// The values of a key, then a child. The entry is counted where it takes no bytes.
     #[cycle(read)]
-    fn entry(&mut self, alloc: Global, key: &[Code], kid: &Code) -> Result<Entry, OpenError>
+    fn entry(&mut self, alloc: Global, kid: &Code, key: &[Code]) -> Result<Entry, OpenError>
         ensures { Takes (λ e. e) (keyed_read (readers (map format key.now)) (stored kid.now) self.old.rest.now) self.new.rest.now result }
     {
         let before = self.rest.len();
@@ -180,19 +180,31 @@ impl<'a> Input<'a> {
     }
 
     /// The values of a key.
-    #[cycle(read)]
     fn key(&mut self, alloc: Global, codes: &[Code]) -> Result<Row, OpenError>
         ensures { Takes (λ row. row) (key_read (readers (map format codes.now)) self.old.rest.now) self.new.rest.now result }
     {
         let mut key = Row::new(alloc);
         for code in codes {
-            let value = match self.data(alloc, code) {
-                Ok(value) => into_value(value),
+            let value = match self.key_value(alloc, code) {
+                Ok(value) => value,
                 Err(why) => return Err(why),
             };
             key.push(value)?;
         }
         Ok(key)
+    }
+
+    /// A value of a key. Key codes of well-formed codes are those of a single value; for another code there
+    /// is no value to hold, which is answered as want of memory.
+    fn key_value(&mut self, alloc: Global, code: &Code) -> Result<Value, OpenError>
+        ensures { Takes (λ v. v) (value_read (stored code.now) self.old.rest.now) self.new.rest.now result }
+    {
+        match code {
+            Code::Int { lo, hi } => Ok(into_value(self.int(*lo, *hi)?)),
+            Code::Bool => Ok(into_value(self.bool()?)),
+            Code::Text { min, max } => Ok(into_value(self.text(alloc, *min, *max)?)),
+            _ => Err(OpenError::Memory),
+        }
     }
 }
 

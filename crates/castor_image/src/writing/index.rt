@@ -28,8 +28,8 @@ pub fn put_hash(
     out: &mut Vec<u8>,
     count: Range,
     body: Range,
-    key: &[Code],
     kid: &Code,
+    key: &[Code],
     held: &Held,
 ) -> Result<(), PutError>
     ensures { Puts (hash_piece count body (entry_by key.now kid.now) (keyed_of held.now)) out.old.items out.new.items result }
@@ -40,7 +40,7 @@ pub fn put_hash(
                 return Err(PutError::NotFit);
             }
             put_ranged(out, count, entries.len() as u64)?;
-            put_hash_body(alloc, out, body, key, kid, entries)
+            put_hash_body(alloc, out, body, kid, key, entries)
         }
         None => Err(PutError::NotFit),
     }
@@ -52,8 +52,8 @@ fn put_hash_body(
     alloc: Global,
     out: &mut Vec<u8>,
     body: Range,
-    key: &[Code],
     kid: &Code,
+    key: &[Code],
     entries: &[Entry],
 ) -> Result<(), PutError>
     ensures { Puts (directed_piece body (bucket_starts (entry_by key.now kid.now) entries.now) (one_after_other (entry_by key.now kid.now) (bucketed entries.now))) out.old.items out.new.items result }
@@ -62,7 +62,7 @@ fn put_hash_body(
     let at = out.len();
     reserve_front(out, body, plan.starts.len())?;
     let first = out.len();
-    let starts = put_buckets(alloc, out, key, kid, entries, &plan)?;
+    let starts = put_buckets(alloc, out, kid, key, entries, &plan)?;
     fill_front(alloc, out, at, first, body, starts.as_slice())
 }
 
@@ -90,8 +90,8 @@ fn entry_hash(alloc: Global, entry: &Entry) -> Result<u64, Memory>
 fn put_buckets(
     alloc: Global,
     out: &mut Vec<u8>,
-    key: &[Code],
     kid: &Code,
+    key: &[Code],
     entries: &[Entry],
     plan: &Plan,
 ) -> Result<Vec<u64>, PutError>
@@ -102,7 +102,10 @@ fn put_buckets(
     let mut starts = Vec::new(alloc);
     for bucket in 0..plan.buckets {
         starts.push((out.len() - first) as u64)?;
-        put_places(alloc, out, key, kid, entries, places_of(plan, bucket))?;
+        match put_places(alloc, out, kid, key, entries, places_of(plan, bucket)) {
+            Ok(()) => {}
+            Err(why) => return Err(why),
+        }
     }
     starts.push((out.len() - first) as u64)?;
     Ok(starts)
@@ -127,8 +130,8 @@ fn places_of(plan: &Plan, bucket: u64) -> &[u64]
 fn put_places(
     alloc: Global,
     out: &mut Vec<u8>,
-    key: &[Code],
     kid: &Code,
+    key: &[Code],
     entries: &[Entry],
     places: &[u64],
 ) -> Result<(), PutError>
@@ -136,7 +139,10 @@ fn put_places(
     ensures { Puts (one_after_other (entry_by key.now kid.now) (entries_at entries.now places.now)) out.old.items out.new.items result }
 {
     for place in places {
-        put_entry(alloc, out, key, kid, &entries[*place as usize])?;
+        match put_entry(alloc, out, kid, key, &entries[*place as usize]) {
+            Ok(()) => {}
+            Err(why) => return Err(why),
+        }
     }
     Ok(())
 }
@@ -148,8 +154,8 @@ pub fn put_ord(
     out: &mut Vec<u8>,
     count: Range,
     body: Range,
-    key: &[Code],
     kid: &Code,
+    key: &[Code],
     held: &Held,
 ) -> Result<(), PutError>
     ensures { Puts (ord_piece count body (entry_by key.now kid.now) (keyed_of held.now)) out.old.items out.new.items result }
@@ -160,7 +166,7 @@ pub fn put_ord(
                 return Err(PutError::NotFit);
             }
             put_ranged(out, count, entries.len() as u64)?;
-            put_ord_body(alloc, out, body, key, kid, entries)
+            put_ord_body(alloc, out, body, kid, key, entries)
         }
         None => Err(PutError::NotFit),
     }
@@ -172,8 +178,8 @@ fn put_ord_body(
     alloc: Global,
     out: &mut Vec<u8>,
     body: Range,
-    key: &[Code],
     kid: &Code,
+    key: &[Code],
     entries: &[Entry],
 ) -> Result<(), PutError>
     ensures { Puts (directed_piece body (entry_starts (entry_by key.now kid.now) entries.now) (one_after_other (entry_by key.now kid.now) entries.now)) out.old.items out.new.items result }
@@ -181,7 +187,7 @@ fn put_ord_body(
     let at = out.len();
     reserve_front(out, body, entries.len())?;
     let first = out.len();
-    let starts = put_entries(alloc, out, key, kid, entries)?;
+    let starts = put_entries(alloc, out, kid, key, entries)?;
     fill_front(alloc, out, at, first, body, starts.as_slice())
 }
 
@@ -190,8 +196,8 @@ fn put_ord_body(
 fn put_entries(
     alloc: Global,
     out: &mut Vec<u8>,
-    key: &[Code],
     kid: &Code,
+    key: &[Code],
     entries: &[Entry],
 ) -> Result<Vec<u64>, PutError>
     ensures { PutsAt (λ starts. starts.items) (one_after_other (entry_by key.now kid.now) entries.now) (entry_starts (entry_by key.now kid.now) entries.now) out.old.items out.new.items result }
@@ -200,7 +206,10 @@ fn put_entries(
     let mut starts = Vec::new(alloc);
     for entry in entries {
         starts.push((out.len() - first) as u64)?;
-        put_entry(alloc, out, key, kid, entry)?;
+        match put_entry(alloc, out, kid, key, entry) {
+            Ok(()) => {}
+            Err(why) => return Err(why),
+        }
     }
     Ok(starts)
 }

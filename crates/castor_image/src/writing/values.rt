@@ -26,12 +26,7 @@ pub fn gap(lo: i64, hi: i64) -> u64
 }
 
 /// An int, in one field of its range.
-pub fn put_int(
-    out: &mut Vec<u8>,
-    lo: i64,
-    hi: i64,
-    value: Option<&Value>,
-) -> Result<(), PutError>
+pub fn put_int(out: &mut Vec<u8>, lo: i64, hi: i64, value: Option<&Value>) -> Result<(), PutError>
     ensures { Puts (int_piece lo hi (option_copied value.entry)) out.old.items out.new.items result }
 {
     match value {

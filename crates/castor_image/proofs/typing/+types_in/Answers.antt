@@ -1,4 +1,4 @@
-use Rattle.std.proofs.Common.{◌∙◌, ap, sym, subst, map, Some, List, Option, Result, Vec, Global, option_and_then}
+use Rattle.std.proofs.Common.{◌∙◌, refl, ap, sym, subst, map, Some, List, Option, Result, Vec, Global, option_and_then}
 use Rattle.std.specs.List.{flat_map}
 use Rattle.std.specs.Option.{ok_or}
 use Rattle.std.proofs.lemmas.List.{map-append}
@@ -9,10 +9,10 @@ use Rattle.castor_alg.specs.declared.typing.TypeError.{TypeError}
 use Rattle.castor_alg.specs.declared.typing.TypeError.TheVariants.{Ill, Memory}
 use Rattle.castor_alg.specs.TypeEnvs.{context_of}
 use Rattle.castor_alg.specs.Typing.{common_types, within_limits}
-use Rattle.castor_image.specs.Types.{types_under}
+use Rattle.castor_image.specs.Types.{looked_up, types_under}
 use Rattle.castor_alg.proofs.TypingLaws.{each-more}
 use Rattle.castor_alg.proofs.TypingAnswers.{each_refused, refused_by_part, some-from_ok}
-use Rattle.castor_image.proofs.TypeLaws.{types_under-Cross, types_under-Concat, types_under-Group}
+use Rattle.castor_image.proofs.TypeLaws.{types_under-Cross, types_under-Concat, types_under-Group, types_under-Hash}
 use Rattle.castor_image.proofs.typing.+types_in.Goals as goal
 
 abbrev Answered : Result (Vec Ty Global) TypeError → Option (List Ty) → Type 0
@@ -53,3 +53,11 @@ pub types_of_all-loop-code-preserved : goal.types_of_all-loop-code-preserved
 types_of_all-loop-code-preserved t c =
     each-more (λ (code : Code). types_under code (context_of c.args.env.now)) c.args.codes.now c.loop-code.code-index c.code-item.result c.code-item.result _ c.in-Ok.types.items c.loop-code-test.true c.code-item.is c.loop-code.invariant (some-from_ok _ _ c.in-Ok.ensures)
     ∙ ap Some (sym (ap (map (λ (types : Vec Ty Global). types.items)) c.in_ok-push-in-Ok.ensures.items ∙ map-append _ c.loop-code.all.items _))
+
+pub key_columns-returns-in-Ok : goal.key_columns-returns-in-Ok
+key_columns-returns-in-Ok t c =
+    let typed = some-from_ok _ _ c.in-Ok.ensures ∙ ap (λ (operands : List (Vec Ty Global)). Some (map (λ (types : Vec Ty Global). types.items) operands)) (sym c.as_slice.ensures.value) in
+    subst (Answered c.cross_types.result) (sym (ap (option_and_then appended) typed)) c.cross_types.ensures
+
+pub key_columns-returns-in-Err : goal.key_columns-returns-in-Err
+key_columns-returns-in-Err t c = refused_by_part _ appended _ c.in-Err.why refl c.in-Err.ensures

@@ -2,7 +2,7 @@ use Rattle.std.proofs.Common.{◌≡◌, ◌-◌, drop, map}
 use Rattle.castor_code.specs.Data.{format, readers, stored}
 use Rattle.castor_code.specs.Readings.{in_order}
 use Rattle.castor_code.specs.Steps.{many, behind}
-use Rattle.castor_image.specs.IndexReadings.{key_read, keyed_read}
+use Rattle.castor_image.specs.IndexReadings.{keyed_read}
 use Rattle.castor_image.proofs.reading.Input.+read.Given as goal
 
 abbrev pub invariant-in_order-loop-kid : goal.invariant-in_order-loop-kid
@@ -13,6 +13,3 @@ invariant-many-loop l = many l.number (stored l.kid) l.fn.self.rest.now ≡ behi
 
 abbrev pub invariant-many_entries-loop : goal.invariant-many_entries-loop
 invariant-many_entries-loop l = many l.number (keyed_read (readers (map format l.key)) (stored l.kid)) l.fn.self.rest.now ≡ behind l.entries.items (many (l.number - l.counter) (keyed_read (readers (map format l.key)) (stored l.kid)) l.self.rest.now)
-
-abbrev pub invariant-key-loop-code : goal.invariant-key-loop-code
-invariant-key-loop-code l = key_read (readers (map format l.codes)) l.fn.self.rest.now ≡ behind l.key (key_read (readers (map format (drop l.code-index l.codes))) l.self.rest.now)

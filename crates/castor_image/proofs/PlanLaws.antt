@@ -4,9 +4,12 @@ use Rattle.std.proofs.lemmas.List.{length-map}
 use Rattle.std.proofs.lemmas.List.Elements.{All-filter}
 use Rattle.std.proofs.lemmas.List.FromFn.{get_or-map-range_with_len, get_or-range_with_len, length-range_with_len}
 use Rattle.std.proofs.lemmas.List.Sorted.{length_permutation}
+use Rattle.castor_alg.specs.declared.held.Entry.{Entry}
 use Rattle.castor_dir.specs.declared.plan.Plan.{Plan}
+use Rattle.castor_dir.specs.Hashing.{hash_of}
 use Rattle.castor_dir.specs.Buckets.{bucket_count, places, places_in, start_of}
 use Rattle.castor_dir.specs.Plans.{buckets_of, plan_of}
+use Rattle.castor_image.specs.Puts.{hashes}
 use Rattle.castor_dir.proofs.CountLaws.{start_of-le, start_of-mono}
 use Rattle.castor_dir.proofs.DirectoryLaws.{plan_of-directory}
 
@@ -45,3 +48,6 @@ places_there hashes b = λ k d inside.
 
     below_filter : (assigned : List ℕ) (k d : ℕ) → k < length (places_in assigned b) → get_or (places_in assigned b) k d < length assigned
     below_filter assigned k d inside = All-filter (λ p. eqb (get_or assigned p 0) b) (λ p. p < length assigned) (places (length assigned)) (below_places (length assigned)) k d inside
+
+pub bucket_inside : (es : List Entry) (b : ℕ) → All (λ p. p < length es) (places_in (buckets_of (hashes es)) b)
+bucket_inside es b = subst (λ n. All (λ p. p < n) (places_in (buckets_of (hashes es)) b)) (length-map es (λ (e : Entry). hash_of e.key)) (places_there (hashes es) b)

@@ -1,8 +1,8 @@
 -- Runs of pieces: their fronts, and where each begins.
-use Rattle.std.proofs.Common.{◌≡◌, ◌∙◌, ℕ, ◌+◌, ◌-◌, ◌<◌, ◌≤◌, All, List, [], ◌∷◌, ◌++◌, eqb, filter, map, take, drop, length, get_or, Bool, true, false, ◌&&◌, Result, Option, Some, None, subst, ap, sym, refl, arith, append_assoc, append-nil, length-append}
+use Rattle.std.proofs.Common.{◌≡◌, ◌∙◌, ℕ, ◌+◌, ◌-◌, ◌<◌, ◌≤◌, All, List, [], ◌∷◌, ◌++◌, eqb, filter, map, take, drop, length, get_or, replicate, Bool, true, false, ◌&&◌, Result, Option, Some, None, subst, ap, sym, refl, arith, append_assoc, append-nil, length-append}
 use Rattle.std.specs.List.{flat_map, range_with_len}
 use Rattle.std.proofs.lemmas.Bool.{and_parts, and_from}
-use Rattle.std.proofs.lemmas.List.{take-append-drop, take_all}
+use Rattle.std.proofs.lemmas.List.{length-replicate, take-append-drop}
 use Rattle.std.proofs.lemmas.List.Elements.{All-map}
 use Rattle.std.proofs.lemmas.List.FromFn.{get_or-range_with_len, length-range_with_len, map-range_with_len_more}
 use Rattle.castor_alg.specs.declared.held.Entry.{Entry}
@@ -143,3 +143,23 @@ module _ (a b : Held → Piece) where
 -- ---- a body behind its room
 pub body_long : (p : Piece) (old room out : List ℕ) (first : ℕ) → first ≡ length (old ++ room) → out ≡ (old ++ room) ++ p.bytes → length out - first ≡ length p.bytes
 body_long p old room out first is put = let all = ap length put ∙ length-append (old ++ room) p.bytes in omega arith
+
+-- room that was put
+pub room_long : (old new : List ℕ) (n : ℕ) → new ≡ old ++ replicate n 0 → length new ≡ length old + n
+room_long old new n put = let all = ap length put ∙ length-append old (replicate n 0) in let long = length-replicate n 0 in omega arith
+
+-- ---- a bucket that doesn't fit
+module _ (write : Entry → Piece) (es : List Entry) where
+  unfit_later : (b c : ℕ) → (one_after_other write (in_buckets b es)).fits ≡ false → (one_after_other write (in_buckets (b + c) es)).fits ≡ false
+  unfit_later b c unfit = each_number (λ d. (one_after_other write (in_buckets (b + d) es)).fits ≡ false)
+      (let none : b + 0 ≡ b = omega arith in subst (λ n. (one_after_other write (in_buckets n es)).fits ≡ false) (sym none) unfit)
+      (λ d rest.
+      let more : b + (d + 1) ≡ b + d + 1 = omega arith in
+      subst (λ n. (one_after_other write (in_buckets n es)).fits ≡ false) (sym more) (ap (λ (x : Piece). x.fits) (buckets_next write es (b + d)) ∙ first_fails (one_after_other write (in_buckets (b + d) es)).fits _ rest))
+      c
+
+  pub bucket_unfit : (b : ℕ) → b < bucket_count (length es) → (one_after_other write (filter (λ e. eqb (bucket_of (bucket_count (length es)) e) b) es)).fits ≡ false → (one_after_other write (bucketed es)).fits ≡ false
+  bucket_unfit b inside unfit =
+      let here : (one_after_other write (in_buckets (b + 1) es)).fits ≡ false = ap (λ (x : Piece). x.fits) (buckets_next write es b) ∙ second_fails (one_after_other write (in_buckets b es)).fits _ unfit in
+      let back : b + 1 + (bucket_count (length es) - (b + 1)) ≡ bucket_count (length es) = omega arith in
+      subst (λ n. (one_after_other write (in_buckets n es)).fits ≡ false) back (unfit_later (b + 1) (bucket_count (length es) - (b + 1)) here)

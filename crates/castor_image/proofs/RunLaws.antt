@@ -47,7 +47,7 @@ module _ {X : Type 0} (write : X → Piece) where
   run-more xs x = run-append xs (x ∷ []) ∙ ap (both (one_after_other write xs)) (run-one x)
 
   -- the front of a run
-  run-front : (xs : List X) (i : ℕ) → one_after_other write xs ≡ both (one_after_other write (take i xs)) (one_after_other write (drop i xs))
+  pub run-front : (xs : List X) (i : ℕ) → one_after_other write xs ≡ both (one_after_other write (take i xs)) (one_after_other write (drop i xs))
   run-front xs i = ap (one_after_other write) (sym (take-append-drop i xs)) ∙ run-append (take i xs) (drop i xs)
 
 -- what was put of a run

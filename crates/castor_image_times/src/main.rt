@@ -3,11 +3,10 @@
 #![tactic(auto)]
 
 use castor_image::{Image, build, open_image};
-use std::env;
 use std::env::Env;
-use std::io;
 use std::io::{Read, Write};
 use std::time::Instant;
+use std::{env, io};
 
 /// Whether the word `times` was given.
 fn wants_times<R: Env + AllocGlobal>(rt: &R) -> bool {

@@ -1,21 +1,22 @@
-use Rattle.std.proofs.Common.{◌≡◌, ◌∙◌, ℕ, ◌+◌, ◌-◌, ◌<◌, ◌≤◌, All, List, [], ◌∷◌, ◌++◌, replicate, take, drop, length, inr, refl, ap, sym, subst, rules, arith}
+use Rattle.std.proofs.Common.{◌≡◌, ◌∙◌, ℕ, ◌+◌, ◌-◌, ◌<◌, ◌≤◌, All, List, [], ◌∷◌, ◌++◌, map, take, drop, length, inr, refl, ap, sym, subst, rules, arith}
+use Rattle.std.specs.List.{range_with_len}
+use Rattle.std.proofs.lemmas.Grind.{take_at_read}
 use Rattle.std.proofs.lemmas.List.FromFn.{length-map-range_with_len}
 use Rattle.castor_alg.specs.declared.held.Entry.{Entry}
 use Rattle.castor_code.specs.declared.code.Code.{Code}
 use Rattle.castor_code.specs.declared.code.Code.TheFolds.{the_lemmas}
 use Rattle.castor_code.specs.Data.{format}
 use Rattle.castor_code.specs.Directories.{bucket_starts, bucketed, entry_starts, in_buckets, size}
-use Rattle.castor_code.specs.Pieces.{Piece, one_after_other}
+use Rattle.castor_code.specs.Pieces.{Piece, both, one_after_other}
 use Rattle.castor_code.specs.Shapes.{parts_of}
 use Rattle.castor_dir.specs.Buckets.{bucket_count}
-use Rattle.castor_dir.specs.declared.plan.Plan.{Plan}
 use Rattle.castor_image.specs.Puts.{Puts, directed_piece, entries_at, entry_by, front_width, hashes}
 use Rattle.castor_image.proofs.ArmLaws.{dep_node, hash_node, ord_node, put_node}
 use Rattle.castor_image.proofs.BucketLaws.{entries_in}
 use Rattle.castor_image.proofs.KeyPutLaws.{entry_put, entry_refused, sides_apart}
 use Rattle.castor_image.proofs.PlanLaws.{bucket_inside, has_bucket}
 use Rattle.castor_image.proofs.PutLaws.{filled, why_more}
-use Rattle.castor_image.proofs.RunLaws.{body_long, bucket_starts-more, bucket_starts-within, bucket_unfit, buckets_next, entry_starts-within, front_more, front_size, pair_put, room_long}
+use Rattle.castor_image.proofs.RunLaws.{Front, body_long, bucket_starts-more, bucket_starts-within, bucket_unfit, buckets_next, entry_starts-more, entry_starts-within, front_more, front_size, pair_put, room_long, run-front, run-more, run_refused}
 use Rattle.castor_image.proofs.writing.+put.Goals as goal
 
 pub put_data-returns-in-Hash : goal.put_data-returns-in-Hash
@@ -85,6 +86,46 @@ index::put_buckets-returns-in-Err t c =
     let many : c.args.plan.now.buckets ≡ bucket_count (length es) = search (rules, c.requires) in
     let inside : b < bucket_count (length es) = omega (arith, c.loop-bucket-test.true) in
     why_more c.in-Err.why (λ unfit. bucket_unfit write es b inside (ap (λ (xs : List Entry). (one_after_other write xs).fits) (sym same) ∙ unfit)) c.in-Err.ensures
+
+pub index::put_buckets-returns : goal.index::put_buckets-returns
+index::put_buckets-returns t c =
+    let es = c.args.entries.now in
+    let write = entry_by c.args.key.now c.args.kid.now in
+    let b = c.loop-bucket.bucket in
+    let many : c.args.plan.now.buckets ≡ bucket_count (length es) = search (rules, c.requires) in
+    let done : b ≡ bucket_count (length es) = omega arith in
+    let front = subst (λ n. Front (one_after_other write (in_buckets n es)) c.loop-bucket.out.items c.args.out.now.items) done c.loop-bucket.invariant.0 in
+    let out : c.len-2.result ≡ length c.loop-bucket.out.items = search (rules, c.len-2.ensures) in
+    let start = ap (λ k. k - c.loop-bucket.first) out ∙ front_size _ c.loop-bucket.out.items c.args.out.now.items c.loop-bucket.first c.loop-bucket.invariant.2 c.loop-bucket.invariant.0 in
+    let starts = bucket_starts-more write es b c.loop-bucket.starts.items _ _ c.loop-bucket.invariant.1 start c.in_ok-push-2.ensures.items in
+    (front.fits, front.bytes, starts ∙ ap (λ n. map (λ k. size write (in_buckets k es)) (range_with_len 0 (n + 1))) done)
+
+-- ---- as they come
+pub index::put_entries-loop-entry-preserved : goal.index::put_entries-loop-entry-preserved
+index::put_entries-loop-entry-preserved t c =
+    let es = c.args.entries.now in
+    let write = entry_by c.args.key.now c.args.kid.now in
+    let i = c.loop-entry.entry-index in
+    let e = c.entry-item.result in
+    let next : take (i + 1) es ≡ take i es ++ e ∷ [] = (take_at_read es i e c.loop-entry-test.true).1 ∙ ap (λ (x : Entry). take i es ++ x ∷ []) (sym c.entry-item.is) in
+    let all = ap (one_after_other write) next ∙ run-more write (take i es) e in
+    let out : c.len.result ≡ length c.loop-entry.out.items = search (rules, c.len.ensures) in
+    let start = ap (λ k. k - c.loop-entry.first) out ∙ front_size _ c.loop-entry.out.items c.args.out.now.items c.loop-entry.first c.loop-entry.invariant.2 c.loop-entry.invariant.0 in (
+      front_more _ _ _ c.args.out.now.items c.loop-entry.out.items _ all c.loop-entry.invariant.0 c.in-Ok.ensures.0 c.in-Ok.ensures.1,
+      entry_starts-more write es i c.loop-entry.starts.items _ _ c.loop-entry.invariant.1 start c.in_ok-push.ensures.items,
+      c.loop-entry.invariant.2,
+    )
+
+pub index::put_entries-returns-in-Err : goal.index::put_entries-returns-in-Err
+index::put_entries-returns-in-Err t c =
+    let es = c.args.entries.now in
+    let write = entry_by c.args.key.now c.args.kid.now in
+    let i = c.loop-entry.entry-index in
+    let e = c.entry-item.result in
+    let next : take (i + 1) es ≡ take i es ++ e ∷ [] = (take_at_read es i e c.loop-entry-test.true).1 ∙ ap (λ (x : Entry). take i es ++ x ∷ []) (sym c.entry-item.is) in
+    let all = ap (one_after_other write) next ∙ run-more write (take i es) e in
+    let rest = one_after_other write (drop (i + 1) es) in
+    why_more c.in-Err.why (λ unfit. run_refused (one_after_other write (take i es)) (write e) rest (one_after_other write es) (run-front write es (i + 1) ∙ ap (λ (p : Piece). both p rest) all) unfit) c.in-Err.ensures
 
 -- ---- fronts
 pub index::put_hash_body-fill_front-requires-clause-offsets : goal.index::put_hash_body-fill_front-requires-clause-offsets

@@ -1,6 +1,7 @@
 use Rattle.std.proofs.Common.{◌≡◌, ◌∙◌, ℕ, ◌+◌, ◌-◌, ◌<◌, ◌≤◌, All, List, [], ◌∷◌, ◌++◌, map, take, drop, length, inr, refl, ap, sym, subst, rules, arith}
 use Rattle.std.specs.List.{range_with_len}
 use Rattle.std.proofs.lemmas.Grind.{take_at_read}
+use Rattle.std.proofs.lemmas.List.{length-map}
 use Rattle.std.proofs.lemmas.List.FromFn.{length-map-range_with_len}
 use Rattle.castor_alg.specs.declared.held.Entry.{Entry}
 use Rattle.castor_code.specs.declared.code.Code.{Code}
@@ -10,6 +11,8 @@ use Rattle.castor_code.specs.Directories.{bucket_starts, bucketed, entry_starts,
 use Rattle.castor_code.specs.Pieces.{Piece, both, one_after_other}
 use Rattle.castor_code.specs.Shapes.{parts_of}
 use Rattle.castor_dir.specs.Buckets.{bucket_count}
+use Rattle.castor_dir.specs.Hashing.{hash_of}
+use Rattle.castor_dir.specs.declared.plan.Plan.{Plan}
 use Rattle.castor_image.specs.Puts.{Puts, directed_piece, entries_at, entry_by, front_width, hashes}
 use Rattle.castor_image.proofs.ArmLaws.{dep_node, hash_node, ord_node, put_node}
 use Rattle.castor_image.proofs.BucketLaws.{entries_in}
@@ -27,7 +30,7 @@ put_data-returns-in-Hash t c =
 pub put_data-returns-in-Ord : goal.put_data-returns-in-Ord
 put_data-returns-in-Ord t c =
     put_node c.args.code.now _ c.args.held.now c.args.out.now.items _ c.put_ord.result
-    (ord_node c.args.code.now c.in-Ord.count c.in-Ord.body _ _ _ _ _ _ c.in-Ord.is (c.from_ref.ensures ∙ ap (λ (k : Code). k ∷ []) c.get-in-Ord-2.ensures) c.get-in-Ord.ensures) c.put_ord.ensures
+    (ord_node c.args.code.now c.in-Ord.count c.in-Ord.body _ _ _ _ _ _ c.in-Ord.is (c.from_ref.ensures.value ∙ ap (λ (k : Code). k ∷ []) c.get-in-Ord-2.ensures) c.get-in-Ord.ensures) c.put_ord.ensures
 
 pub put_data-returns-in-Ok : goal.put_data-returns-in-Ok
 put_data-returns-in-Ok t c =
@@ -68,7 +71,7 @@ index::put_buckets-loop-bucket-preserved t c =
     let here = has_bucket (hashes es) c.args.plan.now b c.requires c.loop-bucket-test.true in
     let same = ap (entries_at es) (c.places_of.ensures ∙ here.places) ∙ entries_in es b in
     let out : c.len.result ≡ length c.loop-bucket.out.items = search (rules, c.len.ensures) in
-    let start = ap (λ k. k - c.loop-bucket.first) out ∙ front_size _ c.loop-bucket.out.items c.args.out.now.items c.loop-bucket.first c.loop-bucket.invariant.2 c.loop-bucket.invariant.0 in (
+    let start = ap (λ k. k - c.len-first.result) out ∙ front_size _ c.loop-bucket.out.items c.args.out.now.items c.len-first.result c.loop-bucket.invariant.2 c.loop-bucket.invariant.0 in (
       front_more _ _ _ c.args.out.now.items c.loop-bucket.out.items _ (buckets_next write es b) c.loop-bucket.invariant.0
       (ap (λ (xs : List Entry). (one_after_other write xs).fits) (sym same) ∙ c.in-Ok.ensures.0)
       (c.in-Ok.ensures.1 ∙ ap (λ (xs : List Entry). c.loop-bucket.out.items ++ (one_after_other write xs).bytes) same),
@@ -83,7 +86,7 @@ index::put_buckets-returns-in-Err t c =
     let b = c.loop-bucket.bucket in
     let here = has_bucket (hashes es) c.args.plan.now b c.requires c.loop-bucket-test.true in
     let same = ap (entries_at es) (c.places_of.ensures ∙ here.places) ∙ entries_in es b in
-    let many : c.args.plan.now.buckets ≡ bucket_count (length es) = search (rules, c.requires) in
+    let many : c.args.plan.now.buckets ≡ bucket_count (length es) = ap (λ (p : Plan). p.buckets) c.requires ∙ ap bucket_count (length-map es (λ (e : Entry). hash_of e.key)) in
     let inside : b < bucket_count (length es) = omega (arith, c.loop-bucket-test.true) in
     why_more c.in-Err.why (λ unfit. bucket_unfit write es b inside (ap (λ (xs : List Entry). (one_after_other write xs).fits) (sym same) ∙ unfit)) c.in-Err.ensures
 
@@ -92,11 +95,11 @@ index::put_buckets-returns t c =
     let es = c.args.entries.now in
     let write = entry_by c.args.key.now c.args.kid.now in
     let b = c.loop-bucket.bucket in
-    let many : c.args.plan.now.buckets ≡ bucket_count (length es) = search (rules, c.requires) in
+    let many : c.args.plan.now.buckets ≡ bucket_count (length es) = ap (λ (p : Plan). p.buckets) c.requires ∙ ap bucket_count (length-map es (λ (e : Entry). hash_of e.key)) in
     let done : b ≡ bucket_count (length es) = omega arith in
     let front = subst (λ n. Front (one_after_other write (in_buckets n es)) c.loop-bucket.out.items c.args.out.now.items) done c.loop-bucket.invariant.0 in
     let out : c.len-2.result ≡ length c.loop-bucket.out.items = search (rules, c.len-2.ensures) in
-    let start = ap (λ k. k - c.loop-bucket.first) out ∙ front_size _ c.loop-bucket.out.items c.args.out.now.items c.loop-bucket.first c.loop-bucket.invariant.2 c.loop-bucket.invariant.0 in
+    let start = ap (λ k. k - c.len-first.result) out ∙ front_size _ c.loop-bucket.out.items c.args.out.now.items c.len-first.result c.loop-bucket.invariant.2 c.loop-bucket.invariant.0 in
     let starts = bucket_starts-more write es b c.loop-bucket.starts.items _ _ c.loop-bucket.invariant.1 start c.in_ok-push-2.ensures.items in
     (front.fits, front.bytes, starts ∙ ap (λ n. map (λ k. size write (in_buckets k es)) (range_with_len 0 (n + 1))) done)
 
@@ -110,7 +113,7 @@ index::put_entries-loop-entry-preserved t c =
     let next : take (i + 1) es ≡ take i es ++ e ∷ [] = (take_at_read es i e c.loop-entry-test.true).1 ∙ ap (λ (x : Entry). take i es ++ x ∷ []) (sym c.entry-item.is) in
     let all = ap (one_after_other write) next ∙ run-more write (take i es) e in
     let out : c.len.result ≡ length c.loop-entry.out.items = search (rules, c.len.ensures) in
-    let start = ap (λ k. k - c.loop-entry.first) out ∙ front_size _ c.loop-entry.out.items c.args.out.now.items c.loop-entry.first c.loop-entry.invariant.2 c.loop-entry.invariant.0 in (
+    let start = ap (λ k. k - c.len-first.result) out ∙ front_size _ c.loop-entry.out.items c.args.out.now.items c.len-first.result c.loop-entry.invariant.2 c.loop-entry.invariant.0 in (
       front_more _ _ _ c.args.out.now.items c.loop-entry.out.items _ all c.loop-entry.invariant.0 c.in-Ok.ensures.0 c.in-Ok.ensures.1,
       entry_starts-more write es i c.loop-entry.starts.items _ _ c.loop-entry.invariant.1 start c.in_ok-push.ensures.items,
       c.loop-entry.invariant.2,
@@ -159,11 +162,10 @@ index::put_ord_body-fill_front-requires-clause-room t c =
     let write = entry_by c.args.key.now c.args.kid.now in
     let starts : c.as_slice.result.now ≡ entry_starts write es = c.as_slice.ensures.value ∙ c.in_ok-starts.ensures.2 in
     let count : length c.as_slice.result.now ≡ length es = ap length starts ∙ length-map-range_with_len (λ i. size write (take i es)) 0 (length es) in
-    let entries : c.len.result ≡ length es = search (rules, c.len.ensures) in
     let at : c.len-at.result ≡ length c.args.out.now.items = search (rules, c.len-at.ensures) in
     let first : c.len-first.result ≡ length c.reserve_front.new.out.items = search (rules, c.len-first.ensures) in
     let room = room_long c.args.out.now.items c.reserve_front.new.out.items _ c.in_ok-reserve_front.ensures in
-    ap (λ k. c.len-at.result + front_width c.args.body k) (count ∙ sym entries) ∙ ap (λ k. k + front_width c.args.body c.len.result) at ∙ sym (first ∙ room)
+    ap (λ k. c.len-at.result + front_width c.args.body k) count ∙ ap (λ k. k + front_width c.args.body (length es)) at ∙ sym (first ∙ room)
 
 pub index::put_ord_body-fill_front-requires-clause-offsets : goal.index::put_ord_body-fill_front-requires-clause-offsets
 index::put_ord_body-fill_front-requires-clause-offsets t c =

@@ -146,7 +146,7 @@ body_long p old room out first is put = let all = ap length put ∙ length-appen
 
 -- room that was put
 pub room_long : (old new : List ℕ) (n : ℕ) → new ≡ old ++ replicate n 0 → length new ≡ length old + n
-room_long old new n put = let all = ap length put ∙ length-append old (replicate n 0) in let long : length (replicate n 0) ≡ n = length-replicate n 0 in omega arith
+room_long old new n put = ap length put ∙ length-append old (replicate n 0) ∙ ap (λ k. length old + k) (length-replicate n 0)
 
 -- ---- a bucket that doesn't fit
 module _ (write : Entry → Piece) (es : List Entry) where

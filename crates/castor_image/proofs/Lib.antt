@@ -1,0 +1,15 @@
+pub mod ArmLaws
+pub mod BucketLaws
+pub mod FrameLaws
+pub mod HeadLaws
+pub mod ImageLaws
+pub mod IndexReadLaws
+pub mod KeyPutLaws
+pub mod PieceLaws
+pub mod PlanLaws
+pub mod PutLaws
+pub mod RunLaws
+pub mod SortLaws
+pub mod TakeLaws
+pub mod TextLaws
+pub mod TypeLaws

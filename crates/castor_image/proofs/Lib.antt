@@ -8,6 +8,7 @@ pub mod KeyPutLaws
 pub mod PieceLaws
 pub mod PlanLaws
 pub mod PutLaws
+pub mod ReadLaws
 pub mod RunLaws
 pub mod SortLaws
 pub mod TakeLaws

@@ -1,10 +1,11 @@
 //! What images hold, read from the front of bytes.
 
-ghost use Rattle.std.specs.Prelude.{◌≡◌, ◌∷◌, [], map, MatchResult};
+ghost use Rattle.std.specs.Prelude.{◌≡◌, ◌+◌, ◌∷◌, ◌↔◌, [], IsTrue, map, MatchResult};
+ghost use Rattle.castor_alg.specs.declared.held.Held.{Parts};
 ghost use Rattle.castor_code.specs.Data.{format, readers, stored};
 ghost use Rattle.castor_code.specs.Readings.{in_order, inner_read, list_read, parts_read};
 ghost use Rattle.castor_code.specs.Steps.{many};
-ghost use Rattle.castor_image.specs.Takes.{Takes};
+ghost use Rattle.castor_image.specs.Takes.{Takes, second_read};
 ghost use Rattle.castor_image.specs.declared.error.OpenError.TheVariants as error;
 
 mod head;
@@ -78,14 +79,24 @@ impl<'a> Input<'a> {
             } => self.ord(alloc, *count, *body, kid.get(), slice::from_ref(key.get())),
             Code::Select(_, kid) => self.inner(alloc, kid.get()),
             Code::Filter(_, kid) => self.inner(alloc, kid.get()),
-            Code::Dep(_, first, second) => {
-                let a = self.data(alloc, first.get())?;
-                let b = self.data(alloc, second.get())?;
-                Ok(Held::Parts(two(alloc, a, b)?))
-            }
+            Code::Dep(_, first, second) => match self.data(alloc, first.get()) {
+                Ok(part) => self.second(alloc, second.get(), part),
+                Err(why) => Err(why),
+            },
             Code::Group(_, _, kid) => self.inner(alloc, kid.get()),
             Code::Order(_, kid) => self.inner(alloc, kid.get()),
             Code::Dedup(kid) => self.inner(alloc, kid.get()),
+        }
+    }
+
+    /// The second of two parts, whose first is read.
+    #[cycle(read)]
+    fn second(&mut self, alloc: Global, kid: &Code, first: Held) -> Result<Held, OpenError>
+        ensures { Takes (λ h. h) (second_read first (stored kid.now) self.old.rest.now) self.new.rest.now result }
+    {
+        match self.data(alloc, kid) {
+            Ok(part) => pair(alloc, first, part),
+            Err(why) => Err(why),
         }
     }
 
@@ -134,8 +145,7 @@ impl<'a> Input<'a> {
         let length = self.ranged(body)?;
         let before = self.rest.len() as u64;
         let rows = self.many(alloc, kid, number)?;
-        let after = self.rest.len() as u64;
-        if after <= before && before - after == length {
+        if took(before, self.rest.len() as u64, length) {
             Ok(Held::Rows(rows))
         } else {
             Err(OpenError::NotImage)
@@ -186,12 +196,19 @@ impl<'a> Input<'a> {
     }
 }
 
-/// The list of two parts.
-fn two(alloc: Global, a: Held, b: Held) -> Result<Items<Held>, OpenError>
-    ensures { MatchResult result (λ hs. hs ≡ a ∷ b ∷ []) (λ e. e ≡ error.Memory) }
+/// Whether so many bytes were read, by how many were left before and are left now.
+fn took(before: u64, now: u64, length: u64) -> bool
+    ensures { IsTrue result ↔ (before ≡ length + now) }
+{
+    now <= before && before - now == length
+}
+
+/// Two parts.
+fn pair(alloc: Global, first: Held, second: Held) -> Result<Held, OpenError>
+    ensures { MatchResult result (λ h. h ≡ Parts (first ∷ second ∷ [])) (λ e. e ≡ error.Memory) }
 {
     let mut parts = Items::new(alloc);
-    parts.push(a)?;
-    parts.push(b)?;
-    Ok(parts)
+    parts.push(first)?;
+    parts.push(second)?;
+    Ok(Held::Parts(parts))
 }

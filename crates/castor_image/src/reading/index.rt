@@ -1,6 +1,6 @@
 //! Indexes.
 
-ghost use Rattle.std.specs.Prelude.{◌≡◌, ◌*◌, drop, map};
+ghost use Rattle.std.specs.Prelude.{◌≡◌, ◌≤◌, ◌*◌, ◌^◌, drop, map};
 ghost use Rattle.castor_fixed.specs.Fields.{width};
 ghost use Rattle.castor_code.specs.Data.{format, hash_format, ord_format, readers, stored};
 ghost use Rattle.castor_code.specs.Readings.{hash_offsets, ord_offsets};
@@ -93,7 +93,7 @@ impl<'a> Input<'a> {
         if number > MAX_ENTRIES {
             return Err(OpenError::Memory);
         }
-        self.skip_offsets(body, bucket_count(number) + 1);
+        self.skip_offsets(body, hash_offsets(number));
         let entries = self.entries(alloc, kid, key, number)?;
         Ok(Held::Keyed(Items::from_vec(entries)))
     }
@@ -121,8 +121,17 @@ impl<'a> Input<'a> {
     fn skip_offsets(&mut self, body: Range, number: u64)
         ensures { self.new.rest.now ≡ drop (number * width body.hi) self.old.rest.now }
     {
-        let bytes = number as u128 * width(0, body.hi as i128) as u128;
-        if bytes >= self.rest.len() as u128 {
+        match number.checked_mul(offset_width(body) as u64) {
+            Some(bytes) => self.skip(bytes),
+            None => self.rest = &[],
+        }
+    }
+
+    /// Passes over so many bytes, or over all that is left.
+    fn skip(&mut self, bytes: u64)
+        ensures { self.new.rest.now ≡ drop bytes self.old.rest.now }
+    {
+        if bytes >= self.rest.len() as u64 {
             self.rest = &[];
         } else {
             self.rest = &self.rest[bytes as usize..];
@@ -206,6 +215,22 @@ impl<'a> Input<'a> {
             _ => Err(OpenError::Memory),
         }
     }
+}
+
+/// The offsets of a hash index with so many entries.
+fn hash_offsets(entries: u64) -> u64
+    requires { entries ≤ 2 ^ 62 }
+    ensures { result ≡ hash_offsets entries }
+{
+    bucket_count(entries) + 1
+}
+
+/// The bytes of an offset into a body.
+fn offset_width(body: Range) -> u8
+    ensures value { result ≡ width body.hi }
+    ensures within { result ≤ 8 }
+{
+    width(0, body.hi as i128)
 }
 
 /// The bytes behind an index, where the bytes begin with what was put for it.

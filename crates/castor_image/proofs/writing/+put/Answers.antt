@@ -73,8 +73,8 @@ index::put_buckets-loop-bucket-preserved t c =
     let out : c.len.result ≡ length c.loop-bucket.out.items = search (rules, c.len.ensures) in
     let start = ap (λ k. k - c.len-first.result) out ∙ front_size _ c.loop-bucket.out.items c.args.out.now.items c.len-first.result c.loop-bucket.invariant.2 c.loop-bucket.invariant.0 in (
       front_more _ _ _ c.args.out.now.items c.loop-bucket.out.items _ (buckets_next write es b) c.loop-bucket.invariant.0
-      (ap (λ (xs : List Entry). (one_after_other write xs).fits) (sym same) ∙ c.in-Ok.ensures.0)
-      (c.in-Ok.ensures.1 ∙ ap (λ (xs : List Entry). c.loop-bucket.out.items ++ (one_after_other write xs).bytes) same),
+          (ap (λ (xs : List Entry). (one_after_other write xs).fits) (sym same) ∙ c.in-Ok.ensures.0)
+          (c.in-Ok.ensures.1 ∙ ap (λ (xs : List Entry). c.loop-bucket.out.items ++ (one_after_other write xs).bytes) same),
       bucket_starts-more write es b c.loop-bucket.starts.items _ _ c.loop-bucket.invariant.1 start c.in_ok-push.ensures.items,
       c.loop-bucket.invariant.2,
     )

@@ -1,15 +1,22 @@
 use Rattle.std.proofs.Common.{◌≡◌, ◌∙◌, List, [], ◌∷◌, map, ℕ, Err, ap, sym, refl, arith}
+use Rattle.std.proofs.lemmas.Result.{err_from_is_err_and}
 use Rattle.castor_alg.specs.declared.held.Held.{Held}
 use Rattle.castor_code.specs.declared.code.Code.{Code}
 use Rattle.castor_code.specs.Data.{format, hash_format, ord_format, readers, stored}
 use Rattle.castor_code.specs.Readings.{hash_offsets, in_order, ord_offsets}
 use Rattle.castor_code.proofs.LoopLaws.{loop_more}
 use Rattle.castor_image.specs.IndexReadings.{keyed_read}
-use Rattle.castor_image.proofs.ArmLaws.{dep_node, hash_node, ord_node, take_node}
+use Rattle.castor_image.proofs.ArmLaws.{concat_node, cross_node, dep_node, hash_node, ord_node, take_node}
 use Rattle.castor_image.proofs.IndexReadLaws.{entries_there, entries_lack, index_lacks, index_there, index_unread}
 use Rattle.castor_image.proofs.ReadLaws.{list_apart, list_there, no_first, no_second, second_there, take_second}
 use Rattle.castor_image.proofs.TakeLaws.{many_stopped, turn_more, turn_stopped}
 use Rattle.castor_image.proofs.reading.Input.+read.Goals as goal
+
+pub data-returns-in-Cross : goal.data-returns-in-Cross
+data-returns-in-Cross t c = take_node c.args.code.now (λ (h : Held). h) _ c.args.self.now.rest.now _ c.parts.result (cross_node c.args.code.now _ _ c.in-Cross.is c.as_slice.ensures) c.parts.ensures
+
+pub data-returns-in-Concat : goal.data-returns-in-Concat
+data-returns-in-Concat t c = take_node c.args.code.now (λ (h : Held). h) _ c.args.self.now.rest.now _ c.parts-in-Concat.result (concat_node c.args.code.now _ _ c.in-Concat.is c.as_slice-in-Concat.ensures) c.parts-in-Concat.ensures
 
 pub data-returns-in-Hash : goal.data-returns-in-Hash
 data-returns-in-Hash t c =
@@ -29,7 +36,7 @@ data-returns-in-Ok t c =
 
 pub data-returns-in-Err : goal.data-returns-in-Err
 data-returns-in-Err t c =
-    take_node c.args.code.now (λ (h : Held). h) _ c.args.self.now.rest.now _ (Err c.in-Err.why)
+    take_node c.args.code.now (λ (h : Held). h) _ c.args.self.now.rest.now c.args.self.now.rest.now (Err c.in-Err.why)
     (dep_node c.args.code.now _ _ _ _ c.in-Dep.second c.in-Dep.is c.get-in-Dep.ensures refl)
     (no_first (stored c.get-in-Dep.result.now) (stored c.in-Dep.second) c.args.self.now.rest.now c.in-Err.why c.in-Err.ensures)
 
@@ -70,19 +77,29 @@ many_entries-returns-in-Err t c =
 pub hash-returns-in-Ok : goal.hash-returns-in-Ok
 hash-returns-in-Ok t c =
     index_there c.args.count c.args.body hash_offsets (readers (map format c.args.key.now)) (stored c.args.kid.now) (hash_format c.args.count c.args.body (map format c.args.key.now) (format c.args.kid.now)).write c.args.self.now.rest.now
-    c.in_ok-held.held _ _ _ c.as_slice.result.now c.put_hash.result c.in_ok-held.ensures c.new.ensures c.put_hash.ensures c.as_slice.ensures.value (λ x. x.now) c.in-Ok.rest c.in-Ok.ensures
+    c.in_ok-held.held _ _ _ c.as_slice.result.now c.put_hash-put.result c.in_ok-held.ensures c.new-bytes.ensures c.put_hash-put.ensures c.as_slice.ensures.value (λ x. x.now) c.in-Ok.rest c.in-Ok.ensures
 
 pub hash-returns-in-Err : goal.hash-returns-in-Err
 hash-returns-in-Err t c =
     index_lacks c.args.count c.args.body hash_offsets (readers (map format c.args.key.now)) (stored c.args.kid.now) (hash_format c.args.count c.args.body (map format c.args.key.now) (format c.args.kid.now)).write c.args.self.now.rest.now
-    c.in_ok-held.held _ _ _ c.as_slice.result.now c.put_hash.result c.in_ok-held.ensures c.new.ensures c.put_hash.ensures c.as_slice.ensures.value (λ x. x.now) c.in-Err.why c.in-Err.ensures
+    c.in_ok-held.held _ _ _ c.as_slice.result.now c.put_hash-put.result c.in_ok-held.ensures c.new-bytes.ensures c.put_hash-put.ensures c.as_slice.ensures.value (λ x. x.now) c.in-Err.why c.in-Err.ensures
 
 pub ord-returns-in-Ok : goal.ord-returns-in-Ok
 ord-returns-in-Ok t c =
     index_there c.args.count c.args.body ord_offsets (readers (map format c.args.key.now)) (stored c.args.kid.now) (ord_format c.args.count c.args.body (map format c.args.key.now) (format c.args.kid.now)).write c.args.self.now.rest.now
-    c.in_ok-held.held _ _ _ c.as_slice.result.now c.put_ord.result c.in_ok-held.ensures c.new.ensures c.put_ord.ensures c.as_slice.ensures.value (λ x. x.now) c.in-Ok.rest c.in-Ok.ensures
+    c.in_ok-held.held _ _ _ c.as_slice.result.now c.put_ord-put.result c.in_ok-held.ensures c.new-bytes.ensures c.put_ord-put.ensures c.as_slice.ensures.value (λ x. x.now) c.in-Ok.rest c.in-Ok.ensures
 
 pub ord-returns-in-Err : goal.ord-returns-in-Err
 ord-returns-in-Err t c =
     index_lacks c.args.count c.args.body ord_offsets (readers (map format c.args.key.now)) (stored c.args.kid.now) (ord_format c.args.count c.args.body (map format c.args.key.now) (format c.args.kid.now)).write c.args.self.now.rest.now
-    c.in_ok-held.held _ _ _ c.as_slice.result.now c.put_ord.result c.in_ok-held.ensures c.new.ensures c.put_ord.ensures c.as_slice.ensures.value (λ x. x.now) c.in-Err.why c.in-Err.ensures
+    c.in_ok-held.held _ _ _ c.as_slice.result.now c.put_ord-put.result c.in_ok-held.ensures c.new-bytes.ensures c.put_ord-put.ensures c.as_slice.ensures.value (λ x. x.now) c.in-Err.why c.in-Err.ensures
+
+pub hash-returns-in_err-held : goal.hash-returns-in_err-held
+hash-returns-in_err-held t c =
+    let p = err_from_is_err_and c.from_residual.result c.from_residual.ensures.1 in
+    rw (p.1, p.2) (index_unread c.args.count c.args.body hash_offsets (readers (map format c.args.key.now)) (stored c.args.kid.now) (hash_format c.args.count c.args.body (map format c.args.key.now) (format c.args.kid.now)).write c.args.self.now.rest.now _ c.in_err-held.ensures)
+
+pub ord-returns-in_err-held : goal.ord-returns-in_err-held
+ord-returns-in_err-held t c =
+    let p = err_from_is_err_and c.from_residual.result c.from_residual.ensures.1 in
+    rw (p.1, p.2) (index_unread c.args.count c.args.body ord_offsets (readers (map format c.args.key.now)) (stored c.args.kid.now) (ord_format c.args.count c.args.body (map format c.args.key.now) (format c.args.kid.now)).write c.args.self.now.rest.now _ c.in_err-held.ensures)

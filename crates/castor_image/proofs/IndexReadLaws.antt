@@ -18,7 +18,7 @@ use Rattle.castor_image.specs.declared.error.OpenError.{OpenError}
 use Rattle.castor_image.specs.declared.error.OpenError.TheVariants.{NotImage, Memory}
 use Rattle.castor_image.specs.declared.writing.PutError.{PutError}
 use Rattle.castor_image.specs.declared.writing.PutError.TheVariants as put
-use Rattle.castor_image.specs.IndexReadings.{key_read, keyed_read, sorted_read, entries_read, Confirms}
+use Rattle.castor_image.specs.IndexReadings.{key_read, keyed_read, entries_read, Confirms}
 use Rattle.castor_image.specs.Puts.{Puts}
 use Rattle.castor_image.proofs.PieceLaws.{first_fails}
 use Rattle.castor_image.proofs.PutLaws.{second_fails}
@@ -115,10 +115,10 @@ module _ (count body : Range) (offsets : ℕ → ℕ) (ks : List Reader) (kid : 
     then_confirmed : index_read count body offsets (entry_read ks kid) write bs ≡ confirmed write h bs
     then_confirmed = in_steps ∙ next_of _ _ _ _ read
 
-    pub index_confirmed : {T : Type 0} (view : T → List ℕ) (r : Result T OpenError) (rest : T) → r ≡ Ok rest → Confirms view done bs written r → index_read count body offsets (entry_read ks kid) write bs ≡ Some (h, view rest)
+    index_confirmed : {T : Type 0} (view : T → List ℕ) (r : Result T OpenError) (rest : T) → r ≡ Ok rest → Confirms view done bs written r → index_read count body offsets (entry_read ks kid) write bs ≡ Some (h, view rest)
     index_confirmed view r rest is confirms = then_confirmed ∙ confirmed_by write h bs written done put_is view r rest is confirms
 
-    pub index_refused : {T : Type 0} (view : T → List ℕ) (r : Result T OpenError) (e : OpenError) → r ≡ Err e → Confirms view done bs written r → Lacks e (index_read count body offsets (entry_read ks kid) write bs ≡ None)
+    index_refused : {T : Type 0} (view : T → List ℕ) (r : Result T OpenError) (e : OpenError) → r ≡ Err e → Confirms view done bs written r → Lacks e (index_read count body offsets (entry_read ks kid) write bs ≡ None)
     index_refused view r e is confirms = lacks_more e (λ none. then_confirmed ∙ none) (not_confirmed write h bs written done put_is view r e is confirms)
 
   -- the same, where the bytes are put into an empty list and are looked at as a slice
@@ -131,17 +131,3 @@ module _ (count body : Range) (offsets : ℕ → ℕ) (ks : List Reader) (kid : 
 
     pub index_lacks : {T : Type 0} (view : T → List ℕ) (e : OpenError) → Confirms view done bs slice (Err e) → Lacks e (index_read count body offsets (entry_read ks kid) write bs ≡ None)
     index_lacks {T} view e confirms = index_refused h left slice done read put_empty view (Err e) e refl confirms
-
--- ---- entries behind offsets that are passed over
-module _ (count body : Range) (offsets : ℕ → ℕ) (one : List ℕ → Read Entry) (bs b c skipped : List ℕ) (n len : ℕ) (counted : ranged count bs ≡ Some (n, b)) (sized : ranged body b ≡ Some (len, c)) (passed : skipped ≡ drop (offsets n * width body.hi) c) where
-  entries_due : entries_read count body offsets one bs ≡ next (sorted_read n one skipped) (λ es rest. got {X = Held} (Keyed es) rest)
-  entries_due =
-      next_of (ranged count bs) (λ m s. next (ranged body s) (λ l t. next (sorted_read m one (drop (offsets m * width body.hi) t)) (λ es rest. got {X = Held} (Keyed es) rest))) n b counted
-      ∙ next_of (ranged body b) (λ l t. next (sorted_read n one (drop (offsets n * width body.hi) t)) (λ es rest. got {X = Held} (Keyed es) rest)) len c sized
-      ∙ ap (λ (s : List ℕ). next (sorted_read n one s) (λ es rest. got {X = Held} (Keyed es) rest)) (sym passed)
-
-  pub entries_there : (es : List Entry) (rest : List ℕ) → sorted_read n one skipped ≡ Some (es, rest) → entries_read count body offsets one bs ≡ Some (Keyed es, rest)
-  entries_there es rest read = entries_due ∙ ap (λ (o : Option (List Entry × List ℕ)). next o (λ xs more. got {X = Held} (Keyed xs) more)) read
-
-  pub entries_lack : (e : OpenError) → Lacks e (sorted_read n one skipped ≡ None) → Lacks e (entries_read count body offsets one bs ≡ None)
-  entries_lack e why = lacks_more e (λ none. entries_due ∙ ap (λ (o : Option (List Entry × List ℕ)). next o (λ xs more. got {X = Held} (Keyed xs) more)) none) why

@@ -1,4 +1,4 @@
-use Rattle.std.proofs.Common.{◌≡◌, ◌∙◌, List, [], ◌∷◌, map, ℕ, Err, ap, sym, refl, arith}
+use Rattle.std.proofs.Common.{◌∙◌, List, [], ◌∷◌, map, ℕ, Err, ap, refl, arith}
 use Rattle.std.proofs.lemmas.Result.{err_from_is_err_and}
 use Rattle.castor_alg.specs.declared.held.Held.{Held}
 use Rattle.castor_code.specs.declared.code.Code.{Code}
@@ -7,8 +7,8 @@ use Rattle.castor_code.specs.Readings.{hash_offsets, in_order, ord_offsets}
 use Rattle.castor_code.proofs.LoopLaws.{loop_more}
 use Rattle.castor_image.specs.IndexReadings.{keyed_read}
 use Rattle.castor_image.proofs.ArmLaws.{concat_node, cross_node, dep_node, hash_node, ord_node, take_node}
-use Rattle.castor_image.proofs.IndexReadLaws.{entries_there, entries_lack, index_lacks, index_there, index_unread}
-use Rattle.castor_image.proofs.ReadLaws.{list_apart, list_there, no_first, no_second, second_there, take_second}
+use Rattle.castor_image.proofs.IndexReadLaws.{index_lacks, index_there, index_unread}
+use Rattle.castor_image.proofs.ReadLaws.{no_first, no_second, second_there, take_second}
 use Rattle.castor_image.proofs.TakeLaws.{many_stopped, turn_more, turn_stopped}
 use Rattle.castor_image.proofs.reading.Input.+read.Goals as goal
 
@@ -77,22 +77,22 @@ many_entries-returns-in-Err t c =
 pub hash-returns-in-Ok : goal.hash-returns-in-Ok
 hash-returns-in-Ok t c =
     index_there c.args.count c.args.body hash_offsets (readers (map format c.args.key.now)) (stored c.args.kid.now) (hash_format c.args.count c.args.body (map format c.args.key.now) (format c.args.kid.now)).write c.args.self.now.rest.now
-    c.in_ok-held.held _ _ _ c.as_slice.result.now c.put_hash-put.result c.in_ok-held.ensures c.new-bytes.ensures c.put_hash-put.ensures c.as_slice.ensures.value (λ x. x.now) c.in-Ok.rest c.in-Ok.ensures
+    c.in_ok-held.held _ _ _ c.as_slice.result.now c.put_hash-put.result c.in_ok-held.ensures c.new-bytes.ensures.items c.put_hash-put.ensures c.as_slice.ensures.value (λ x. x.now) c.in-Ok.rest c.in-Ok.ensures
 
 pub hash-returns-in-Err : goal.hash-returns-in-Err
 hash-returns-in-Err t c =
     index_lacks c.args.count c.args.body hash_offsets (readers (map format c.args.key.now)) (stored c.args.kid.now) (hash_format c.args.count c.args.body (map format c.args.key.now) (format c.args.kid.now)).write c.args.self.now.rest.now
-    c.in_ok-held.held _ _ _ c.as_slice.result.now c.put_hash-put.result c.in_ok-held.ensures c.new-bytes.ensures c.put_hash-put.ensures c.as_slice.ensures.value (λ x. x.now) c.in-Err.why c.in-Err.ensures
+    c.in_ok-held.held _ _ _ c.as_slice.result.now c.put_hash-put.result c.in_ok-held.ensures c.new-bytes.ensures.items c.put_hash-put.ensures c.as_slice.ensures.value (λ (xs : List ℕ). xs) c.in-Err.why c.in-Err.ensures
 
 pub ord-returns-in-Ok : goal.ord-returns-in-Ok
 ord-returns-in-Ok t c =
     index_there c.args.count c.args.body ord_offsets (readers (map format c.args.key.now)) (stored c.args.kid.now) (ord_format c.args.count c.args.body (map format c.args.key.now) (format c.args.kid.now)).write c.args.self.now.rest.now
-    c.in_ok-held.held _ _ _ c.as_slice.result.now c.put_ord-put.result c.in_ok-held.ensures c.new-bytes.ensures c.put_ord-put.ensures c.as_slice.ensures.value (λ x. x.now) c.in-Ok.rest c.in-Ok.ensures
+    c.in_ok-held.held _ _ _ c.as_slice.result.now c.put_ord-put.result c.in_ok-held.ensures c.new-bytes.ensures.items c.put_ord-put.ensures c.as_slice.ensures.value (λ x. x.now) c.in-Ok.rest c.in-Ok.ensures
 
 pub ord-returns-in-Err : goal.ord-returns-in-Err
 ord-returns-in-Err t c =
     index_lacks c.args.count c.args.body ord_offsets (readers (map format c.args.key.now)) (stored c.args.kid.now) (ord_format c.args.count c.args.body (map format c.args.key.now) (format c.args.kid.now)).write c.args.self.now.rest.now
-    c.in_ok-held.held _ _ _ c.as_slice.result.now c.put_ord-put.result c.in_ok-held.ensures c.new-bytes.ensures c.put_ord-put.ensures c.as_slice.ensures.value (λ x. x.now) c.in-Err.why c.in-Err.ensures
+    c.in_ok-held.held _ _ _ c.as_slice.result.now c.put_ord-put.result c.in_ok-held.ensures c.new-bytes.ensures.items c.put_ord-put.ensures c.as_slice.ensures.value (λ (xs : List ℕ). xs) c.in-Err.why c.in-Err.ensures
 
 pub hash-returns-in_err-held : goal.hash-returns-in_err-held
 hash-returns-in_err-held t c =

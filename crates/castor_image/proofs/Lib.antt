@@ -5,10 +5,12 @@ pub mod HeadLaws
 pub mod ImageLaws
 pub mod IndexReadLaws
 pub mod KeyPutLaws
+pub mod OpenLaws
 pub mod PieceLaws
 pub mod PlanLaws
 pub mod PutLaws
 pub mod RunLaws
+pub mod SectionLaws
 pub mod SortLaws
 pub mod TakeLaws
 pub mod TextLaws

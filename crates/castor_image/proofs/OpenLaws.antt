@@ -12,7 +12,8 @@ use Rattle.castor_alg.proofs.TypingAnswers.{some-from_ok}
 use Rattle.castor_code.specs.declared.code.Code.{Code}
 use Rattle.castor_code.specs.CodeAnswers.{IsNoCode}
 use Rattle.castor_code.specs.CodeForms.{code_bytes, is_well_formed}
-use Rattle.castor_code.specs.Data.{stored}
+use Rattle.castor_code.specs.Data.{fits, stored}
+use Rattle.castor_code.proofs.DataLaws.{reads_data}
 use Rattle.castor_code.proofs.DecodeLaws.{codes_differ}
 use Rattle.castor_image.specs.declared.error.OpenError.{OpenError}
 use Rattle.castor_image.specs.declared.error.OpenError.TheVariants.{NotImage, Memory}
@@ -43,6 +44,10 @@ types_refused head code data_part e formed why =
 pub data_refused : (head : Head) (code : Code) (data_part : List ℕ) (e : OpenError) → is_well_formed code ≡ true → Lacks e (IsNoData code data_part) → Lacks e (HoldNone head (code_bytes code) data_part)
 data_refused head code data_part e formed why =
     lacks_more e (λ none d held l. none held (ap (λ (k : Code). stored k data_part) (codes_differ code d formed l.formed l.code_is) ∙ l.data_is)) why
+
+-- what is read as data fits
+pub held_fits : (code : Code) (data_part : List ℕ) (held : Held) → stored code data_part ≡ Some (held, []) → fits code held ≡ true
+held_fits code data_part held is = ((reads_data code).taken data_part [] held is).0
 
 -- what is no frame
 pub frame_refused : (bytes : List ℕ) (e : OpenError) → Lacks e (IsNoFrame bytes) → Lacks e (IsNoImage bytes)

@@ -27,13 +27,13 @@ module _ (old code stored : List ℕ) (n : ℕ) where
     behind = so.0 ∙ append_assoc (before ++ length_field n) code stored
 
     front_is : take at image ≡ before
-    front_is = ap (take at) in_front ∙ take_at before _ at (sym so.1.0)
+    front_is = ap (take at) in_front ∙ take_at before _ at (sym so.1)
 
     rest_is : drop (at + 8) image ≡ code ++ stored
-    rest_is = ap (drop (at + 8)) behind ∙ drop_at (before ++ length_field n) (code ++ stored) (at + 8) (omega (arith, so.1.0, length_long n, length-append before (length_field n)))
+    rest_is = ap (drop (at + 8)) behind ∙ drop_at (before ++ length_field n) (code ++ stored) (at + 8) (omega (arith, so.1, length_long n, length-append before (length_field n)))
 
     size_is : length image - first ≡ length stored
-    size_is = omega (arith, ap length so.0, so.1.1, length-append (before ++ length_field n ++ code) stored)
+    size_is = omega (arith, ap length so.0, so.2, length-append (before ++ length_field n ++ code) stored)
 
     pub sections_put : (size : ℕ) (new : List ℕ) → size ≡ length image → new ≡ take at image ++ (length_field (size - first) ++ drop (at + 8) image) → new ≡ old ++ sections code stored
     sections_put size new whole is =

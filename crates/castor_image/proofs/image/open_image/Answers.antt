@@ -5,7 +5,7 @@ use Rattle.castor_image.proofs.OpenLaws.{frame_opened, frame_refused}
 use Rattle.castor_image.proofs.image.open_image.Goals as goal
 
 pub open_code-requires : goal.open_code-requires
-open_code-requires c = valid_frame _ c.args.bytes.now c.in-Ok.ensures
+open_code-requires c = record { valid = valid_frame _ c.args.bytes.now c.in-Ok.ensures }
 
 pub returns-in-Ok-clause-value : goal.returns-in-Ok-clause-value
 returns-in-Ok-clause-value c =

@@ -5,11 +5,13 @@ pub mod HeadLaws
 pub mod ImageLaws
 pub mod IndexReadLaws
 pub mod KeyPutLaws
+pub mod OpenLaws
 pub mod PieceLaws
 pub mod PlanLaws
 pub mod PutLaws
 pub mod ReadLaws
 pub mod RunLaws
+pub mod SectionLaws
 pub mod SortLaws
 pub mod TakeLaws
 pub mod TextLaws

@@ -49,75 +49,97 @@ fn image(alloc: Global, head: &[u8], code: &[u8], data: &[u8]) -> Result<Vec<u8>
     Ok(bytes)
 }
 
+/// What an image of these parts is opened as.
+fn found_of(alloc: Global, head: &[u8], code: &[u8], data: &[u8]) -> Result<Opened, AllocError> {
+    let bytes = image(alloc, head, code, data)?;
+    Ok(found(alloc, bytes.as_slice()))
+}
+
 #[test]
-fn data_is_that_of_its_code(rt: HostRuntime) -> Result<(), Fail> {
-    let (int, text) = (INT_HEAD.as_slice(), TEXT_HEAD.as_slice());
-    let index = INDEX.as_slice();
-    let cases = [
-        (int, INT.as_slice(), b"\x02".as_slice(), Opened::Same, "9"),
-        (
-            int,
-            INT.as_slice(),
-            b"\x03".as_slice(),
-            Opened::NotImage,
-            "10 is past 9",
-        ),
-        (
-            text,
-            INT.as_slice(),
-            b"\x02".as_slice(),
-            Opened::NotImage,
-            "an int is no text",
-        ),
-        (text, TEXT.as_slice(), b"a".as_slice(), Opened::Same, "a"),
-        (
-            text,
-            TEXT.as_slice(),
-            b"\xff".as_slice(),
-            Opened::NotImage,
-            "ff is no UTF-8",
-        ),
-        (
-            int,
-            index,
-            b"\x00\x01\x03\x04".as_slice(),
-            Opened::Same,
-            "keys 3 and 4",
-        ),
-        (
-            int,
-            index,
-            b"\x00\x01\x04\x03".as_slice(),
-            Opened::NotImage,
-            "keys out of order",
-        ),
-        (
-            int,
-            index,
-            b"\x00\x01\x03\x03".as_slice(),
-            Opened::NotImage,
-            "a key twice",
-        ),
-        (
-            int,
-            index,
-            b"\x01\x00\x03\x04".as_slice(),
-            Opened::NotImage,
-            "other offsets",
-        ),
-        (
-            int,
-            EMPTY_INDEX.as_slice(),
-            b"".as_slice(),
-            Opened::NotImage,
-            "a key of no bytes twice",
-        ),
+fn an_int_is_within_its_range(rt: HostRuntime) -> Result<(), Fail> {
+    let cases: [(&[u8], Opened); 4] = [
+        (b"\x02", Opened::Same),
+        (b"\x03", Opened::NotImage),
+        (b"", Opened::NotImage),
+        (b"\x02\x02", Opened::NotImage),
     ];
-    for case in cases {
-        let bytes = image(rt.alloc(), case.0, case.1, case.2)?;
-        assert_eq!(rt; found(rt.alloc(), bytes.as_slice()), case.3, "{}", case.4);
+    for case in cases.as_slice() {
+        let opened = found_of(rt.alloc(), INT_HEAD.as_slice(), INT.as_slice(), case.0)?;
+        assert_eq!(rt; opened, case.1, "{:?}", case.0);
     }
     Ok(())
+}
+
+#[test]
+fn a_text_is_of_its_length_and_of_utf8(rt: HostRuntime) -> Result<(), Fail> {
+    let cases: [(&[u8], Opened); 4] = [
+        (b"a", Opened::Same),
+        (b"\xff", Opened::NotImage),
+        (b"", Opened::NotImage),
+        (b"ab", Opened::NotImage),
+    ];
+    for case in cases.as_slice() {
+        let opened = found_of(rt.alloc(), TEXT_HEAD.as_slice(), TEXT.as_slice(), case.0)?;
+        assert_eq!(rt; opened, case.1, "{:?}", case.0);
+    }
+    Ok(())
+}
+
+#[test]
+fn a_code_fits_its_head(rt: HostRuntime) -> Result<(), Fail> {
+    let int = found_of(
+        rt.alloc(),
+        TEXT_HEAD.as_slice(),
+        INT.as_slice(),
+        b"\x02".as_slice(),
+    )?;
+    assert_eq!(rt; int, Opened::NotImage, "an int is no text");
+    let text = found_of(
+        rt.alloc(),
+        INT_HEAD.as_slice(),
+        TEXT.as_slice(),
+        b"a".as_slice(),
+    )?;
+    assert_eq!(rt; text, Opened::NotImage, "a text is no int");
+    Ok(())
+}
+
+#[test]
+fn entries_stand_in_the_order_of_their_keys(rt: HostRuntime) -> Result<(), Fail> {
+    let cases: [(&[u8], Opened); 4] = [
+        (b"\x00\x01\x03\x04", Opened::Same),
+        (b"\x00\x01\x04\x03", Opened::NotImage),
+        (b"\x00\x01\x03\x03", Opened::NotImage),
+        // Other offsets.
+        (b"\x01\x00\x03\x04", Opened::NotImage),
+    ];
+    for case in cases.as_slice() {
+        let opened = found_of(rt.alloc(), INT_HEAD.as_slice(), INDEX.as_slice(), case.0)?;
+        assert_eq!(rt; opened, case.1, "{:?}", case.0);
+    }
+    Ok(())
+}
+
+#[test]
+fn a_key_of_no_bytes_stands_once(rt: HostRuntime) -> Result<(), Fail> {
+    let opened = found_of(
+        rt.alloc(),
+        INT_HEAD.as_slice(),
+        EMPTY_INDEX.as_slice(),
+        b"".as_slice(),
+    )?;
+    assert_eq!(rt; opened, Opened::NotImage);
+    Ok(())
+}
+
+/// What a list of so many fives is opened as.
+fn found_fives(alloc: Global, number: u64) -> Result<Opened, AllocError> {
+    found_of(
+        alloc,
+        INT_HEAD.as_slice(),
+        FIVES.as_slice(),
+        &number.to_le_bytes(),
+    )
 }
 
 #[test]
@@ -129,18 +151,9 @@ fn children_of_no_bytes_are_held_up_to_a_limit(rt: HostRuntime) -> Result<(), Fa
         (65_537, Opened::Memory),
         (u64::MAX, Opened::Memory),
     ];
-    for (number, due) in cases {
-        let bytes = image(
-            rt.alloc(),
-            INT_HEAD.as_slice(),
-            FIVES.as_slice(),
-            &number.to_le_bytes(),
-        )?;
-        assert_eq!(rt;
-            found(rt.alloc(), bytes.as_slice()),
-            due,
-            "{number} children"
-        );
+    for case in cases.as_slice() {
+        let opened = found_fives(rt.alloc(), case.0)?;
+        assert_eq!(rt; opened, case.1, "{} children", case.0);
     }
     Ok(())
 }

@@ -11,6 +11,8 @@ const PARAMS: [&str; 17] = [
 
 const COLUMNS: [&str; 65] = ["x"; 65];
 
+const NAME_OF_64: &str = "a_23456789_23456789_23456789_23456789_23456789_23456789_23456789";
+
 const NAME_OF_65: &str = "a_23456789_23456789_23456789_23456789_23456789_23456789_234567890";
 
 /// The types and names of int columns, behind their number.
@@ -45,6 +47,12 @@ fn zeros(alloc: Global, params: &[&str], columns: &[&str]) -> Result<Vec<u8>, Al
     Ok(bytes)
 }
 
+/// What an image with these names is opened as.
+fn found_zeros(alloc: Global, params: &[&str], columns: &[&str]) -> Result<Opened, AllocError> {
+    let bytes = zeros(alloc, params, columns)?;
+    Ok(found(alloc, bytes.as_slice()))
+}
+
 #[test]
 fn heads_are_within_their_limits(rt: HostRuntime) -> Result<(), Fail> {
     let params = PARAMS.as_slice();
@@ -57,14 +65,9 @@ fn heads_are_within_their_limits(rt: HostRuntime) -> Result<(), Fail> {
         (&params[..1], &columns[..64], Opened::Same),
         (&params[..1], &columns[..65], Opened::NotImage),
     ];
-    for case in cases {
-        let bytes = zeros(rt.alloc(), case.0, case.1)?;
-        let (params, columns) = (case.0.len(), case.1.len());
-        assert_eq!(rt;
-            found(rt.alloc(), bytes.as_slice()),
-            case.2,
-            "{params} parameters, {columns} columns"
-        );
+    for case in cases.as_slice() {
+        let opened = found_zeros(rt.alloc(), case.0, case.1)?;
+        assert_eq!(rt; opened, case.2, "{:?}, {:?}", case.0, case.1);
     }
     Ok(())
 }
@@ -77,27 +80,23 @@ fn names_are_words_of_64_bytes_and_those_of_parameters_are_distinct(
         ("a", "b", Opened::Same),
         ("a", "a", Opened::NotImage),
         ("a", "", Opened::NotImage),
-        ("a", &NAME_OF_65[..64], Opened::Same),
+        ("a", NAME_OF_64, Opened::Same),
         ("a", NAME_OF_65, Opened::NotImage),
         ("a", "2a", Opened::NotImage),
         ("a", "_2", Opened::Same),
         ("a", "a-b", Opened::NotImage),
         ("a", "table", Opened::Same),
     ];
-    for (first, second, due) in cases {
-        let bytes = zeros(rt.alloc(), &[first, second], &["x"])?;
-        assert_eq!(rt;
-            found(rt.alloc(), bytes.as_slice()),
-            due,
-            "{first}, {second}"
-        );
+    for case in cases.as_slice() {
+        let opened = found_zeros(rt.alloc(), &[case.0, case.1], &["x"])?;
+        assert_eq!(rt; opened, case.2, "{}, {}", case.0, case.1);
     }
     Ok(())
 }
 
 #[test]
 fn names_of_columns_may_repeat(rt: HostRuntime) -> Result<(), Fail> {
-    let bytes = zeros(rt.alloc(), &["x"], &["x", "x"])?;
-    assert_eq!(rt; found(rt.alloc(), bytes.as_slice()), Opened::Same);
+    let opened = found_zeros(rt.alloc(), &["x"], &["x", "x"])?;
+    assert_eq!(rt; opened, Opened::Same);
     Ok(())
 }

@@ -1,4 +1,4 @@
-use Rattle.std.proofs.Common.{◌∙◌, refl, ap, sym, subst, map, Some, List, Option, Result, Vec, Global, option_and_then}
+use Rattle.std.proofs.Common.{◌∙◌, refl, ap, sym, subst, map, [], Some, List, Option, Result, Vec, Global, option_and_then}
 use Rattle.std.specs.List.{flat_map}
 use Rattle.std.specs.Option.{ok_or}
 use Rattle.std.proofs.lemmas.List.{map-append}
@@ -8,7 +8,7 @@ use Rattle.castor_code.specs.declared.code.Code.{Code}
 use Rattle.castor_alg.specs.declared.typing.TypeError.{TypeError}
 use Rattle.castor_alg.specs.declared.typing.TypeError.TheVariants.{Ill, Memory}
 use Rattle.castor_alg.specs.TypeEnvs.{context_of}
-use Rattle.castor_alg.specs.Typing.{common_types, within_limits}
+use Rattle.castor_alg.specs.Typing.{common_types, types_of_each, within_limits}
 use Rattle.castor_image.specs.Types.{looked_up, types_under}
 use Rattle.castor_alg.proofs.TypingLaws.{each-more}
 use Rattle.castor_alg.proofs.TypingAnswers.{each_refused, refused_by_part, some-from_ok}
@@ -40,6 +40,19 @@ types_in-returns-in-Ok-types_of_all t c =
 pub types_in-returns-in-Concat : goal.types_in-returns-in-Concat
 types_in-returns-in-Concat t c =
     refused_by_part _ common_types _ c.in-Err-types_of_all.why (types_under-Concat c.args.code.now (context_of c.args.env.now) c.in-Concat.kids c.as_slice-in-Concat.result.now c.in-Concat.is c.as_slice-in-Concat.ensures) c.in-Err-types_of_all.ensures
+
+pub types_in-returns-in-Ok-key_columns : goal.types_in-returns-in-Ok-key_columns
+types_in-returns-in-Ok-key_columns t c =
+    let context = context_of c.args.env.now in
+    let due = types_under-Hash c.args.code.now context c.in-Hash.count c.in-Hash.body c.in-Hash.key c.as_slice-in-Hash.result.now c.in-Hash.kid c.get-in-Ok-key_columns.result.now c.in-Hash.by c.as_slice-in-Ok-key_columns.result.now c.in-Hash.is c.as_slice-in-Hash.ensures c.get-in-Ok-key_columns.ensures c.as_slice-in-Ok-key_columns.ensures in
+    let typed = some-from_ok _ _ c.in-Ok-key_columns.ensures in
+    subst (Answered c.kid_types.result) (sym (due ∙ ap (option_and_then (λ columns. looked_up columns (types_of_each c.as_slice-in-Ok-key_columns.result.now [] context) (types_under c.get-in-Ok-key_columns.result.now context))) typed)) c.kid_types.ensures
+
+pub types_in-returns-in-Hash : goal.types_in-returns-in-Hash
+types_in-returns-in-Hash t c =
+    let context = context_of c.args.env.now in
+    let due = types_under-Hash c.args.code.now context c.in-Hash.count c.in-Hash.body c.in-Hash.key c.as_slice-in-Hash.result.now c.in-Hash.kid c.in-Hash.kid c.in-Hash.by c.in-Hash.by c.in-Hash.is c.as_slice-in-Hash.ensures refl refl in
+    refused_by_part _ (λ columns. looked_up columns (types_of_each c.in-Hash.by [] context) (types_under c.in-Hash.kid context)) _ c.in-Err-key_columns.why due c.in-Err-key_columns.ensures
 
 pub types_in-returns-in-Group : goal.types_in-returns-in-Group
 types_in-returns-in-Group t c =

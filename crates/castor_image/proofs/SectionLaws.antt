@@ -2,7 +2,9 @@
 use Rattle.std.proofs.Common.{◌≡◌, ◌∙◌, ℕ, ◌+◌, ◌-◌, List, ◌++◌, take, drop, length, ap, sym, refl, arith, append_assoc, length-append}
 use Rattle.std.proofs.lemmas.List.{take_at, drop_at}
 use Rattle.castor_fixed.proofs.FieldLaws.{length-field}
-use Rattle.castor_image.specs.Images.{length_field, sections}
+use Rattle.castor_image.specs.declared.head.Head.{Head}
+use Rattle.castor_image.specs.Heads.{head_bytes}
+use Rattle.castor_image.specs.Images.{IsOverhead, length_field, magic, sections}
 
 -- a length takes 8 bytes
 length_long : (n : ℕ) → length (length_field n) ≡ 8
@@ -51,3 +53,27 @@ put_so_far old code stored one two three four slice n k at first long same puts_
     let b : two ≡ old ++ length_field (length code) ++ length_field n = puts_room ∙ ap (λ xs. xs ++ length_field n) a in
     let c : three ≡ old ++ length_field (length code) ++ length_field n ++ code = puts_bytes ∙ ap (λ xs. two ++ xs) same ∙ ap (λ xs. xs ++ code) b in
     (puts_data ∙ ap (λ xs. xs ++ stored) c, place ∙ ap length a, front ∙ ap length c)
+
+-- ---- all but the data
+
+six_parts : (a b c d e f : List ℕ) → length (a ++ (b ++ (c ++ (d ++ (e ++ f))))) ≡ length a + (length b + (length c + (length d + (length e + length f))))
+six_parts a b c d e f =
+    length-append a _ ∙ ap (λ (n : ℕ). length a + n) (length-append b _ ∙ ap (λ (n : ℕ). length b + n) (length-append c _ ∙ ap (λ (n : ℕ). length c + n) (length-append d _ ∙ ap (λ (n : ℕ). length d + n) (length-append e f))))
+
+pub around_is : (head : Head) (code marked headed measured filled whole : List ℕ) (n : ℕ) → marked ≡ magic → headed ≡ marked ++ head_bytes head → measured ≡ headed ++ length_field (length code) → filled ≡ measured ++ length_field 0
+    → whole ≡ filled ++ code → n ≡ length whole → IsOverhead head code n
+around_is head code marked headed measured filled whole n a b c d e size stored =
+    let parts = six_parts magic (head_bytes head) (length_field (length code)) (length_field (length stored)) code stored in
+    omega (
+      arith,
+      parts,
+      size,
+      ap length e ∙ length-append filled code,
+      ap length d ∙ length-append measured (length_field 0),
+      ap length c ∙ length-append headed (length_field (length code)),
+      ap length b ∙ length-append marked (head_bytes head),
+      ap length a,
+      length_long (length code),
+      length_long (length stored),
+      length_long 0,
+    )

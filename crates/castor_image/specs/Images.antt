@@ -1,5 +1,5 @@
 -- Images: what they hold, and their bytes.
-use Rattle.std.specs.Prelude.{◌≡◌, ℕ, nat_le, List, [], ◌∷◌, ◌++◌, map, length, Bool, true, false, Option, Some, None}
+use Rattle.std.specs.Prelude.{◌≡◌, ℕ, ◌+◌, nat_le, List, [], ◌∷◌, ◌++◌, map, length, Bool, true, false, Option, Some, None}
 use Rattle.castor_val.specs.declared.column.Column.{Column}
 use Rattle.castor_val.specs.declared.value.Ty.{Ty}
 use Rattle.castor_alg.specs.Typing.{same_types}
@@ -34,6 +34,10 @@ sections code stored = length_field (length code) ++ (length_field (length store
 -- the bytes of a code and of data behind a head
 abbrev pub framed : Head → List ℕ → List ℕ → List ℕ
 framed head code stored = magic ++ (head_bytes head ++ sections code stored)
+
+-- an image of any data has so many bytes besides
+abbrev pub IsOverhead : Head → List ℕ → ℕ → Type 0
+IsOverhead head code n = (stored : List ℕ) → length (framed head code stored) ≡ n + length stored
 
 -- the bytes of an image
 abbrev pub image_of : Head → Code → Held → List ℕ

@@ -4,7 +4,7 @@ ghost use Rattle.std.specs.Prelude.{◌≡◌, ◌≤◌, ◌+◌, ◌++◌, IfO
 ghost use Rattle.castor_code.specs.CodeForms.{code_bytes, is_well_formed};
 ghost use Rattle.castor_code.specs.Data.{data_of, fits};
 ghost use Rattle.castor_image.specs.Heads.{head_bytes, is_head};
-ghost use Rattle.castor_image.specs.Images.{fits_head, image_of, length_field, sections};
+ghost use Rattle.castor_image.specs.Images.{IsOverhead, fits_head, image_of, length_field, sections};
 
 use crate::head::{Head, put_head};
 use crate::image::MAGIC;
@@ -75,4 +75,20 @@ fn put_fitting(alloc: Global, image: &mut Vec<u8>, code: &Code, held: &Held) -> 
         Ok(()) => Ok(()),
         Err(_) => Err(Memory),
     }
+}
+
+/// The number of bytes of an image beside those of its data. Linear in the head and the code.
+pub fn overhead(alloc: Global, head: &Head, code: &Code) -> Result<u64, Memory>
+    requires head { is_head head.now ≡ true }
+    requires code { is_well_formed code.now ≡ true }
+    ensures { IfOk result (λ n. IsOverhead head.now (code_bytes code.now) n) }
+{
+    let mut around = Vec::new(alloc);
+    around.extend_from_slice(&MAGIC)?;
+    put_head(&mut around, head)?;
+    let code = encode(alloc, code)?;
+    put_length(&mut around, code.len())?;
+    put_length(&mut around, 0)?;
+    around.extend_from_slice(code.as_slice())?;
+    Ok(around.len() as u64)
 }

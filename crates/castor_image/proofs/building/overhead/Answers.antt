@@ -10,4 +10,5 @@ returns c =
     let long : c.len.result ≡ length code = search (rules, c.len.ensures, c.in_ok-code.ensures) in
     let same : c.as_slice.result.now ≡ code = search (rules, c.as_slice.ensures.value, c.in_ok-code.ensures) in
     let marked : c.extend_from_slice.new.self.items ≡ magic = search (rules, c.in_ok-extend_from_slice.ensures.items) in
-    around_is c.args.head.now code _ _ _ _ _ _ marked c.in_ok-put_head.ensures (rw long at c.in_ok-put_length.ensures) c.in_ok-put_length-2.ensures (rw same at c.in_ok-extend_from_slice-2.ensures.items) c.len-2.ensures
+    let size : c.len-2.result ≡ length c.extend_from_slice-2.new.self.items = search (rules, c.len-2.ensures) in
+    around_is c.args.head.now code _ _ _ _ _ _ marked c.in_ok-put_head.ensures (rw long at c.in_ok-put_length.ensures) c.in_ok-put_length-2.ensures (rw same at c.in_ok-extend_from_slice-2.ensures.items) size

@@ -1,10 +1,10 @@
 -- The entries at the places of a bucket.
-use Rattle.std.proofs.Common.{◌≡◌, ◌∙◌, ℕ, zero, suc, ◌+◌, ◌<◌, eqb, cond, List, [], ◌∷◌, ◌++◌, map, filter, take, drop, length, get_or, Bool, true, false, subst, ap, sym, refl, arith, append_assoc, length-append}
+use Rattle.std.proofs.Common.{◌≡◌, ◌∙◌, ℕ, ◌+◌, eqb, cond, List, [], ◌∷◌, ◌++◌, map, filter, take, drop, length, get_or, Bool, true, false, subst, ap, sym, refl, append_assoc, length-append}
 use Rattle.std.specs.List.{flat_map, range_with_len}
 use Rattle.std.proofs.lemmas.List.{drop_at, length-map}
 use Rattle.castor_alg.specs.declared.held.Entry.{Entry}
 use Rattle.castor_code.specs.Directories.{bucket_of}
-use Rattle.castor_dir.specs.Buckets.{bucket, bucket_count, places, places_in}
+use Rattle.castor_dir.specs.Buckets.{bucket, bucket_count, places_in}
 use Rattle.castor_dir.specs.Hashing.{hash_of}
 use Rattle.castor_dir.specs.Plans.{buckets_of}
 use Rattle.castor_image.specs.Puts.{entries_at, hashes}

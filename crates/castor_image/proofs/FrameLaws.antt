@@ -1,11 +1,10 @@
 -- The frame of an image: what is written is read, and what is read is so written.
-use Rattle.std.proofs.Common.{◌≡◌, ◌∙◌, ℕ, nat_le, List, [], ◌∷◌, ◌++◌, take, drop, length, Bool, true, ◌&&◌, Option, Some, None, subst, ap, sym, refl, arith, append_assoc, length-append}
+use Rattle.std.proofs.Common.{◌≡◌, ◌∙◌, ℕ, nat_le, List, ◌++◌, take, drop, length, true, Some, subst, ap, sym, refl, arith, append_assoc, length-append}
 use Rattle.std.specs.Str.{bytes_eq}
-use Rattle.std.proofs.lemmas.Bool.{and_parts, and_from, le-leb, leb-true}
+use Rattle.std.proofs.lemmas.Bool.{le-leb, leb-true}
 use Rattle.std.proofs.lemmas.List.{take_at, drop_at, take-append-drop, length-take-le}
-use Rattle.std.proofs.lemmas.Option.{some_pair_parts, none-some}
+use Rattle.std.proofs.lemmas.Option.{some_pair_parts}
 use Rattle.std.proofs.lemmas.Slice.Eq.{bytes_eq-Decides}
-use Rattle.castor_code.specs.Readings.{Read}
 use Rattle.castor_code.specs.Steps.{next, when}
 use Rattle.castor_code.proofs.StepLaws.{got, next_of, came, when_holds, let_through}
 use Rattle.castor_fixed.proofs.FieldLaws.{number-field, number-taken}

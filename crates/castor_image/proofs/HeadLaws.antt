@@ -1,23 +1,23 @@
 -- Heads: what is written is read, and what is read is so written.
-use Rattle.std.proofs.Common.{◌≡◌, ◌∙◌, ℕ, zero, suc, ◌<◌, ◌≤◌, nat_le, List, [], ◌∷◌, ◌++◌, take, drop, length, Bool, true, false, ◌&&◌, ◌||◌, Option, Some, None, subst, ap, sym, refl, arith, append_assoc, length-append}
+use Rattle.std.proofs.Common.{◌≡◌, ◌∙◌, ℕ, zero, suc, ◌<◌, ◌≤◌, nat_le, List, [], ◌∷◌, ◌++◌, take, drop, length, Bool, true, false, ◌&&◌, ◌||◌, Some, ap, sym, refl, arith, append_assoc, length-append}
 use Rattle.std.specs.List.{list_all}
 use Rattle.std.specs.Str.{IsAscii, is_utf8}
 use Rattle.std.proofs.lemmas.Bool.{and_parts, and_from, le-leb, leb-true}
 use Rattle.std.proofs.lemmas.List.{take_at, drop_at, take-append-drop, length-take-le}
-use Rattle.std.proofs.lemmas.Option.{some_pair_parts, none-some, same_Some}
+use Rattle.std.proofs.lemmas.Option.{some_pair_parts, none-some}
 use Rattle.std.proofs.lemmas.Str.{IsUtf8-from_ascii, is_utf8-from_IsUtf8}
 use Rattle.std.proofs.lemmas.Str.Ascii.{IsAscii-cons, IsAscii-nil}
 use Rattle.castor_val.specs.declared.column.Column.{Column}
 use Rattle.castor_val.specs.declared.value.Ty.{Ty}
 use Rattle.castor_val.specs.declared.value.Ty.TheVariants.{Int, Bool as Truth, Text}
-use Rattle.castor_code.specs.Pieces.{Piece, one_after_other}
+use Rattle.castor_code.specs.Pieces.{Piece}
 use Rattle.castor_code.specs.Readings.{Read}
-use Rattle.castor_code.specs.Steps.{next, when, many, passing}
+use Rattle.castor_code.specs.Steps.{next, when, passing}
 use Rattle.castor_code.proofs.StepLaws.{got, next_of, came, when_holds, let_through}
 use Rattle.castor_code.proofs.PartLaws.{Again, Taken, many_again, many_taken}
 use Rattle.castor_image.specs.declared.head.Head.{Head}
 use Rattle.castor_image.specs.Heads.{type_number, is_between, is_letter, is_digit, is_word_byte, is_name, column_piece, columns_piece, are_params, are_head_columns, only_where, head_piece}
-use Rattle.castor_image.specs.HeadReadings.{byte_read, type_of_number, told, type_read, utf8_read, name_read, column_read, columns_read, params_read, head_columns_read, head_read}
+use Rattle.castor_image.specs.HeadReadings.{type_read, utf8_read, name_read, column_read, columns_read, params_read, head_columns_read, head_read}
 
 -- ---- names are ASCII
 or_below : (a b : Bool) (n : ℕ) → (a || b) ≡ true → (a ≡ true → n < 128) → (b ≡ true → n < 128) → n < 128

@@ -3,7 +3,7 @@ use Rattle.std.proofs.Common.{◌≡◌, ◌∙◌, ℕ, List, [], ◌++◌, Opt
 use Rattle.std.proofs.lemmas.Option.{some_pair_parts, none-some}
 use Rattle.castor_alg.specs.declared.held.Held.{Held}
 use Rattle.castor_code.specs.declared.code.Code.{Code}
-use Rattle.castor_code.specs.CodeForms.{code_bytes, is_well_formed}
+use Rattle.castor_code.specs.CodeForms.{code_bytes}
 use Rattle.castor_code.specs.Data.{data_of, fits, stored}
 use Rattle.castor_code.proofs.DataLaws.{reads_data, data_is_told}
 use Rattle.castor_code.proofs.DecodeLaws.{codes_differ}

@@ -1,5 +1,5 @@
 -- Indexes read in two steps, as by one.
-use Rattle.std.proofs.Common.{◌≡◌, ◌∙◌, ◌⊎◌, inl, inr, ℕ, ◌*◌, List, [], ◌∷◌, ◌++◌, map, drop, length, Bool, true, false, ◌&&◌, Result, Ok, Err, Option, Some, None, subst, ap, sym, refl}
+use Rattle.std.proofs.Common.{◌≡◌, ◌∙◌, ◌⊎◌, inl, inr, ℕ, ◌*◌, List, [], ◌∷◌, map, drop, length, Bool, true, false, ◌&&◌, Result, Ok, Err, Option, Some, None, subst, ap, sym, refl}
 use Rattle.std.proofs.lemmas.Bool.{and_from}
 use Rattle.castor_val.specs.declared.row.Row.{Row}
 use Rattle.castor_val.specs.declared.value.Value.{Value}
@@ -15,7 +15,6 @@ use Rattle.castor_code.specs.Steps.{next, many, when}
 use Rattle.castor_code.proofs.StepLaws.{got, next_of, when_holds}
 use Rattle.castor_fixed.specs.Fields.{width}
 use Rattle.castor_image.specs.declared.error.OpenError.{OpenError}
-use Rattle.castor_image.specs.declared.error.OpenError.TheVariants.{NotImage, Memory}
 use Rattle.castor_image.specs.declared.writing.PutError.{PutError}
 use Rattle.castor_image.specs.declared.writing.PutError.TheVariants as put
 use Rattle.castor_image.specs.IndexReadings.{key_read, keyed_read, entries_read, Confirms}

@@ -1,15 +1,15 @@
 -- The values of keys, as the parts that they are.
-use Rattle.std.proofs.Common.{◌≡◌, ◌∙◌, ℕ, suc, List, [], ◌∷◌, ◌++◌, length, map, Result, Some, None, true, false, ap, sym, refl}
+use Rattle.std.proofs.Common.{◌≡◌, ◌∙◌, ℕ, suc, List, [], ◌∷◌, ◌++◌, length, map, Result, None, true, false, ap, sym, refl}
 use Rattle.castor_val.specs.declared.value.Value.{Value}
 use Rattle.castor_alg.specs.declared.held.Entry.{Entry}
 use Rattle.castor_alg.specs.declared.held.Held.{Held, Leaf, out-roll-Held}
 use Rattle.castor_alg.specs.declared.held.Held.TheVariants.{rolls-Leaf}
 use Rattle.castor_alg.specs.declared.held.Held.TheOpen as F
-use Rattle.castor_code.specs.declared.code.Code.{Code, roll-Code, out-Code, roll-out-Code, fold-roll-Code}
+use Rattle.castor_code.specs.declared.code.Code.{Code, out-Code, roll-out-Code, fold-roll-Code}
 use Rattle.castor_code.specs.declared.code.Code.TheOpen.{Code-F}
 use Rattle.castor_code.specs.declared.code.Code.TheOpen as code
 use Rattle.castor_code.specs.declared.code.Code.TheFolds.{map-Code}
-use Rattle.castor_code.specs.Shapes.{leaf_of, parts_of, rows_of, keyed_of, inner_of, parts_in, rows_in, keyed_in, inner_in}
+use Rattle.castor_code.specs.Shapes.{parts_of, rows_of, keyed_of, inner_of, parts_in, rows_in, keyed_in, inner_in}
 use Rattle.castor_code.specs.Pieces.{Piece, both, int_piece, bool_piece, text_piece, parts_piece, inner_piece, list_piece, side_by_side}
 use Rattle.castor_code.specs.Directories.{entry_piece, hash_piece, ord_piece}
 use Rattle.castor_code.specs.Data.{Format, format, format_step, writers}

@@ -4,7 +4,6 @@ use Rattle.std.specs.Option.{ok_or}
 use Rattle.castor_val.specs.Gives.{Gives}
 use Rattle.castor_val.specs.declared.column.Column.{Column}
 use Rattle.castor_val.specs.declared.value.Ty.{Ty}
-use Rattle.castor_alg.specs.Typing.{same_types}
 use Rattle.castor_alg.specs.declared.held.Held.{Held}
 use Rattle.castor_alg.specs.declared.typing.TypeError.{TypeError}
 use Rattle.castor_alg.specs.declared.typing.TypeError.TheVariants as ill

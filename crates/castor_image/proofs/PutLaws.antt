@@ -10,7 +10,7 @@ use Rattle.castor_image.specs.declared.writing.PutError.{PutError}
 use Rattle.castor_image.specs.declared.writing.PutError.TheVariants.{NotFit, Memory}
 use Rattle.castor_fixed.specs.Fields.{field, width}
 use Rattle.castor_fixed.proofs.FieldLaws.{length-field}
-use Rattle.castor_image.specs.Puts.{Done, Fills, Puts, directed_piece, front_width}
+use Rattle.castor_image.specs.Puts.{Fills, Puts, directed_piece, front_width}
 use Rattle.castor_image.proofs.PieceLaws.{first_fails}
 
 pub second_fails : (a b : Bool) → b ≡ false → (a && b) ≡ false

@@ -1,14 +1,14 @@
 -- Runs of pieces: their fronts, and where each begins.
 use Rattle.std.proofs.Common.{◌≡◌, ◌∙◌, ℕ, ◌+◌, ◌-◌, ◌<◌, ◌≤◌, All, List, [], ◌∷◌, ◌++◌, eqb, filter, map, take, drop, length, get_or, replicate, Bool, true, false, ◌&&◌, Result, Option, Some, None, subst, ap, sym, refl, arith, append_assoc, append-nil, length-append}
-use Rattle.std.specs.List.{flat_map, range_with_len}
-use Rattle.std.proofs.lemmas.Bool.{and_parts, and_from}
+use Rattle.std.specs.List.{range_with_len}
+use Rattle.std.proofs.lemmas.Bool.{and_from}
 use Rattle.std.proofs.lemmas.List.{length-replicate, take-append-drop}
 use Rattle.std.proofs.lemmas.List.Elements.{All-map}
 use Rattle.std.proofs.lemmas.List.FromFn.{get_or-range_with_len, length-range_with_len, map-range_with_len_more}
 use Rattle.castor_alg.specs.declared.held.Entry.{Entry}
 use Rattle.castor_code.specs.Directories.{bucket_of, bucket_starts, bucketed, entry_starts, in_buckets, size}
 use Rattle.castor_code.specs.Pieces.{Piece, both, empty_piece, one_after_other}
-use Rattle.castor_dir.specs.Buckets.{bucket_count, by_bucket, places}
+use Rattle.castor_dir.specs.Buckets.{bucket_count, places}
 use Rattle.castor_dir.proofs.DirectoryLaws.{by_bucket-next, each_number}
 use Rattle.castor_image.proofs.PieceLaws.{first_fails}
 use Rattle.castor_alg.specs.declared.held.Held.{Held}

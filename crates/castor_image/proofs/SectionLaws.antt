@@ -1,5 +1,5 @@
 -- The sections of an image, put before the length of the data is known.
-use Rattle.std.proofs.Common.{◌≡◌, ◌∙◌, ℕ, ◌+◌, ◌-◌, List, ◌++◌, take, drop, length, ap, sym, refl, arith, append_assoc, length-append}
+use Rattle.std.proofs.Common.{◌≡◌, ◌∙◌, ℕ, ◌+◌, ◌-◌, List, ◌++◌, take, drop, length, ap, sym, arith, append_assoc, length-append}
 use Rattle.std.proofs.lemmas.List.{take_at, drop_at}
 use Rattle.castor_fixed.proofs.FieldLaws.{length-field}
 use Rattle.castor_image.specs.declared.head.Head.{Head}

@@ -1,9 +1,9 @@
 -- Indexes read from the front of bytes, in two steps: their entries, and then whether the bytes are those of these.
-use Rattle.std.specs.Prelude.{◌≡◌, ◌⊎◌, ℕ, ◌*◌, List, [], ◌∷◌, drop, length, Option, Some, Result, Ok, Err, MatchResult, true, false}
+use Rattle.std.specs.Prelude.{◌≡◌, ◌⊎◌, ℕ, ◌*◌, List, [], ◌∷◌, drop, length, Some, Result, Ok, Err, MatchResult, true, false}
 use Rattle.castor_val.specs.declared.row.Row.{Row}
 use Rattle.castor_val.specs.declared.value.Value.{Value}
 use Rattle.castor_alg.specs.declared.held.Entry.{Entry}
-use Rattle.castor_alg.specs.declared.held.Held.{Held, Keyed}
+use Rattle.castor_alg.specs.declared.held.Held.{Keyed}
 use Rattle.castor_alg.specs.Sorting.{sorted}
 use Rattle.castor_code.specs.declared.code.Range.{Range}
 use Rattle.castor_code.specs.Directories.{key_lt}

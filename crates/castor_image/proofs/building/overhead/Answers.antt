@@ -1,6 +1,6 @@
-use Rattle.std.proofs.Common.{◌≡◌, ◌∙◌, ap, length, rules, sym}
+use Rattle.std.proofs.Common.{◌≡◌, length, rules}
 use Rattle.castor_code.specs.CodeForms.{code_bytes}
-use Rattle.castor_image.specs.Images.{length_field, magic}
+use Rattle.castor_image.specs.Images.{magic}
 use Rattle.castor_image.proofs.SectionLaws.{around_is}
 use Rattle.castor_image.proofs.building.overhead.Goals as goal
 

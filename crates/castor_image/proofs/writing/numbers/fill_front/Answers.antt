@@ -1,4 +1,4 @@
-use Rattle.std.proofs.Common.{◌≡◌, ◌∙◌, ℕ, ◌+◌, ◌-◌, ◌≤◌, ◌++◌, length, ap, sym, rules, arith}
+use Rattle.std.proofs.Common.{◌≡◌, ◌∙◌, ◌-◌, ◌++◌, length, ap, sym, rules, arith}
 use Rattle.castor_code.specs.Directories.{offset_fields}
 use Rattle.castor_code.specs.Pieces.{ranged_field, within}
 use Rattle.castor_image.proofs.PutLaws.{fill_is, front_long, front_put}

@@ -1,0 +1,10 @@
+pub mod AggregateLaws
+pub mod ArmLaws
+pub mod CombineLaws
+pub mod FitLaws
+pub mod HalvingLaws
+pub mod KeyLaws
+pub mod LayoutLaws
+pub mod LookUpLaws
+pub mod PartLaws
+pub mod RowLaws

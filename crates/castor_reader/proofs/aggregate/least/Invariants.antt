@@ -1,0 +1,8 @@
+use Rattle.std.proofs.Common.{◌≡◌, fold, map, take}
+use Rattle.castor_val.specs.Values.{column, value_of}
+use Rattle.castor_alg.specs.Groups as groups
+use Rattle.castor_reader.specs.Answers.{row_behind}
+use Rattle.castor_reader.proofs.aggregate.least.Given as goal
+
+abbrev pub invariant-loop-row : goal.invariant-loop-row
+invariant-loop-row l = value_of l.least ≡ fold groups.lesser (value_of l.initial.least) (map (λ row. column row l.at) (map row_behind (take l.row-index l.rest)))

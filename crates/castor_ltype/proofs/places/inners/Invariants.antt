@@ -1,0 +1,6 @@
+use Rattle.std.proofs.Common.{◌≡◌, map, take}
+use Rattle.castor_ltype.specs.Places as place
+use Rattle.castor_ltype.proofs.places.inners.Given as goal
+
+abbrev pub invariant-loop-h : goal.invariant-loop-h
+invariant-loop-h l = map (λ h. h.now) l.inners.items ≡ map place.inner (map (λ h. h.now) (take l.h-index l.held))

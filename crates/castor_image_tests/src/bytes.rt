@@ -48,7 +48,7 @@ pub enum Opened {
     Memory,
 }
 
-fn rebuilt(alloc: Global, image: Image, bytes: &[u8]) -> Opened {
+fn rebuilt(alloc: Global, image: &Image<'_>, bytes: &[u8]) -> Opened {
     match build(alloc, image.head(), image.code(), image.decoded()) {
         Ok(again) => {
             if again.as_slice() == bytes {
@@ -64,7 +64,7 @@ fn rebuilt(alloc: Global, image: Image, bytes: &[u8]) -> Opened {
 /// What bytes are opened as.
 pub fn found(alloc: Global, bytes: &[u8]) -> Opened {
     match open_image(alloc, bytes) {
-        Ok(image) => rebuilt(alloc, image, bytes),
+        Ok(image) => rebuilt(alloc, &image, bytes),
         Err(OpenError::NotImage) => Opened::NotImage,
         Err(OpenError::Memory) => Opened::Memory,
     }
@@ -100,11 +100,11 @@ fn push_held(text: &mut String, held: &Held) -> Result<(), AllocError> {
 
 #[cycle(push)]
 fn push_all(text: &mut String, all: &[Held]) -> Result<(), AllocError> {
-    let mut space = "";
-    for held in all {
-        text.push_str(space)?;
+    for (at, held) in all.iter().enumerate() {
+        if at > 0 {
+            text.push_str(" ")?;
+        }
         push_held(text, held)?;
-        space = " ";
     }
     Ok(())
 }

@@ -3,16 +3,14 @@
 use crate::comparison::{Outcome, asked};
 use crate::images::{ORDERS, counted, falling, hash, ordered, sharing};
 use castor_val::Cell;
-use std::marker::Brand;
 use std::process::Abort;
-use std::sync::ledger::Blank;
 use std::test::Fail;
 
 #[test]
 fn orders_are_found_by_customer(rt: HostRuntime) -> Result<(), Fail> {
     let cases = [("ann", 2), ("bob", 1), ("", 0), ("annb", 0), ("zoe", 0)];
     for (name, rows) in cases {
-        let found = asked::<Brand>(rt.alloc(), &ORDERS, &[Cell::Text(name)], Blank::new(1))?;
+        let found = asked(rt.alloc(), &ORDERS, &[Cell::Text(name)])?;
         assert_eq!(rt; found, Outcome::Rows(rows), "{name}");
     }
     Ok(())
@@ -25,12 +23,7 @@ fn keys_that_share_a_bucket_are_told_apart(rt: HostRuntime) -> Result<(), Fail> 
     for key in 0..256i64 {
         let is_key = key == i64::from(one) || key == i64::from(other);
         let due = Outcome::Rows(if is_key { 1 } else { 0 });
-        let found = asked::<Brand>(
-            rt.alloc(),
-            bytes.as_slice(),
-            &[Cell::Int(key)],
-            Blank::new(1),
-        )?;
+        let found = asked(rt.alloc(), bytes.as_slice(), &[Cell::Int(key)])?;
         assert_eq!(rt; found, due, "{key}");
     }
     Ok(())
@@ -58,12 +51,7 @@ fn ranges_hold_their_ends_or_not(rt: HostRuntime) -> Result<(), Fail> {
     ];
     for (lo, hi, number, rows) in cases {
         let bytes = ordered(rt.alloc(), lo, hi)?;
-        let found = asked::<Brand>(
-            rt.alloc(),
-            bytes.as_slice(),
-            &[Cell::Int(number)],
-            Blank::new(1),
-        )?;
+        let found = asked(rt.alloc(), bytes.as_slice(), &[Cell::Int(number)])?;
         assert_eq!(rt; found, Outcome::Rows(rows), "{number}");
     }
     Ok(())
@@ -77,7 +65,7 @@ fn a_bound_that_faults_gives_its_faults(rt: HostRuntime) -> Result<(), Fail> {
         b"\x02\x26\x0b\x23\x01\x00\x00\x00\x00\x00\x00\x00\x22\x00\x00\x00\x00",
         b"\x00",
     )?;
-    let found = asked::<Brand>(rt.alloc(), bytes.as_slice(), &[Cell::Int(0)], Blank::new(1))?;
+    let found = asked(rt.alloc(), bytes.as_slice(), &[Cell::Int(0)])?;
     assert_eq!(rt; found, Outcome::Faults);
     Ok(())
 }
@@ -86,12 +74,7 @@ fn a_bound_that_faults_gives_its_faults(rt: HostRuntime) -> Result<(), Fail> {
 fn operators_are_read_over_their_operands(rt: HostRuntime) -> Result<(), Fail> {
     let bytes = falling(rt.alloc())?;
     for (number, rows) in [(0, 0), (3, 1), (10, 2), (11, 3)] {
-        let found = asked::<Brand>(
-            rt.alloc(),
-            bytes.as_slice(),
-            &[Cell::Int(number)],
-            Blank::new(1),
-        )?;
+        let found = asked(rt.alloc(), bytes.as_slice(), &[Cell::Int(number)])?;
         assert_eq!(rt; found, Outcome::Rows(rows), "{number}");
     }
     Ok(())
@@ -100,7 +83,7 @@ fn operators_are_read_over_their_operands(rt: HostRuntime) -> Result<(), Fail> {
 #[test]
 fn a_second_part_is_read_under_each_row_of_the_first(rt: HostRuntime) -> Result<(), Fail> {
     let bytes = counted(rt.alloc())?;
-    let found = asked::<Brand>(rt.alloc(), bytes.as_slice(), &[Cell::Int(0)], Blank::new(1))?;
+    let found = asked(rt.alloc(), bytes.as_slice(), &[Cell::Int(0)])?;
     assert_eq!(rt; found, Outcome::Rows(1));
     Ok(())
 }

@@ -11,7 +11,7 @@ use castor_plain::{Given, Plain};
 use castor_reader::{Reply, ask};
 use castor_val::{Cell, Memory, compare_rows};
 use std::alloc::Global;
-use std::marker::Model;
+use std::marker::{Brand, Model};
 use std::sync::ledger::{Blank, Ledger};
 
 /// What became of a question: the numbers of rows, or a fault, where both readers say the same.
@@ -81,7 +81,11 @@ fn answered<L: Ledger>(
 }
 
 /// What an image is answered with for these parameters.
-pub fn asked<L: Ledger>(
+pub fn asked(alloc: Global, bytes: &[u8], params: &[Cell<'static>]) -> Result<Outcome, Memory> {
+    asked_by::<Brand>(alloc, bytes, params, Blank::new(1))
+}
+
+fn asked_by<L: Ledger>(
     alloc: Global,
     bytes: &[u8],
     params: &[Cell<'static>],

@@ -15,7 +15,7 @@ fn push_code(text: &mut String, depth: usize, code: &Code) -> Result<(), AllocEr
         Code::Concat(kids) => push_node(text, "concat", depth, kids.as_slice()),
         Code::List { count, body, kid } => {
             push_ranges(text, "list", *count, *body)?;
-            push_code(text, depth + 1, kid.get())
+            push_code(text, depth.saturating_add(1), kid.get())
         }
         Code::Hash {
             count,
@@ -25,8 +25,8 @@ fn push_code(text: &mut String, depth: usize, code: &Code) -> Result<(), AllocEr
             by: _,
         } => {
             push_ranges(text, "hash", *count, *body)?;
-            push_codes(text, depth + 1, key.as_slice())?;
-            push_code(text, depth + 1, kid.get())
+            push_codes(text, depth.saturating_add(1), key.as_slice())?;
+            push_code(text, depth.saturating_add(1), kid.get())
         }
         Code::Ord {
             count,
@@ -37,15 +37,15 @@ fn push_code(text: &mut String, depth: usize, code: &Code) -> Result<(), AllocEr
             hi: _,
         } => {
             push_ranges(text, "ordered", *count, *body)?;
-            push_code(text, depth + 1, key.get())?;
-            push_code(text, depth + 1, kid.get())
+            push_code(text, depth.saturating_add(1), key.get())?;
+            push_code(text, depth.saturating_add(1), kid.get())
         }
         Code::Select(_, kid) => push_inner(text, "select", depth, kid.get()),
         Code::Filter(_, kid) => push_inner(text, "filter", depth, kid.get()),
         Code::Dep(_, first, second) => {
             text.push_str("depjoin\n")?;
-            push_code(text, depth + 1, first.get())?;
-            push_code(text, depth + 1, second.get())
+            push_code(text, depth.saturating_add(1), first.get())?;
+            push_code(text, depth.saturating_add(1), second.get())
         }
         Code::Group(_, _, kid) => push_inner(text, "groupby", depth, kid.get()),
         Code::Order(_, kid) => push_inner(text, "orderby", depth, kid.get()),
@@ -68,12 +68,7 @@ fn push_lengths(text: &mut String, min: u16, max: u16) -> Result<(), AllocError>
     write!(text, "text {min}..{max}\n")
 }
 
-fn push_ranges(
-    text: &mut String,
-    name: &str,
-    count: Range,
-    body: Range,
-) -> Result<(), AllocError> {
+fn push_ranges(text: &mut String, name: &str, count: Range, body: Range) -> Result<(), AllocError> {
     let (count_lo, count_hi) = (count.lo, count.hi);
     let (body_lo, body_hi) = (body.lo, body.hi);
     write!(
@@ -83,27 +78,17 @@ fn push_ranges(
 }
 
 #[cycle(push)]
-fn push_inner(
-    text: &mut String,
-    name: &str,
-    depth: usize,
-    kid: &Code,
-) -> Result<(), AllocError> {
+fn push_inner(text: &mut String, name: &str, depth: usize, kid: &Code) -> Result<(), AllocError> {
     text.push_str(name)?;
     text.push_str("\n")?;
-    push_code(text, depth + 1, kid)
+    push_code(text, depth.saturating_add(1), kid)
 }
 
 #[cycle(push)]
-fn push_node(
-    text: &mut String,
-    name: &str,
-    depth: usize,
-    kids: &[Code],
-) -> Result<(), AllocError> {
+fn push_node(text: &mut String, name: &str, depth: usize, kids: &[Code]) -> Result<(), AllocError> {
     text.push_str(name)?;
     text.push_str("\n")?;
-    push_codes(text, depth + 1, kids)
+    push_codes(text, depth.saturating_add(1), kids)
 }
 
 #[cycle(push)]

@@ -8,7 +8,8 @@ use std::alloc::{AllocError, Global};
 use std::test::Fail;
 
 /// The declarations of the tables, and a parameter of each type.
-const KNOWN: &str = "table orders (id int, cust text, total int); table nothing (id int, cust text, total int); table ends (x int); table small (x int); table steps (a int, b int); table towns (name text, big bool); param c text; param p int; query ";
+const KNOWN: &str =
+    "table orders (id int, cust text, total int); table nothing (id int, cust text, total int); table ends (x int); table small (x int); table steps (a int, b int); table towns (name text, big bool); param c text; param p int; query ";
 
 fn over_known(alloc: Global, query: &str) -> Result<String, AllocError> {
     let mut text = String::from_str(alloc, KNOWN)?;

@@ -1,10 +1,17 @@
-mod Completeness
-mod Cuts
-mod Ends
-mod Limits
-mod OneOutcome
-mod Output
-mod Preparing
-mod Querying
-mod Reading
-mod Tables
+pub mod Completeness
+pub mod Contexts
+pub mod Cuts
+pub mod Ends
+pub mod Headline
+pub mod HeldLaws
+pub mod Layouts
+pub mod Limits
+pub mod OneOutcome
+pub mod Opening
+pub mod Output
+pub mod Preparing
+pub mod Querying
+pub mod Reading
+pub mod Started
+pub mod Tables
+pub mod Valid

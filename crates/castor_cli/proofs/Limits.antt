@@ -6,7 +6,7 @@ use Rattle.std.proofs.lemmas.List.Sums.{AllPass-from_list_all}
 use Rattle.castor_schema.specs.declared.checked.Checked.{Checked}
 use Rattle.castor_schema.specs.declared.checked.Declared.{Declared}
 use Rattle.castor_schema.specs.WellTyped.{AreWithinLimits, is_table}
-use Rattle.castor_cli.specs.Causes.{IsSmall}
+use Rattle.castor_cli.specs.Sound.{IsSmall}
 
 narrow : (t : Declared) → is_table t ≡ true → length t.columns ≤ 64
 narrow t h = leb-true _ _ (and_parts _ _ (and_parts _ _ h).0).1

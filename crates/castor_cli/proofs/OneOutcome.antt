@@ -1,4 +1,4 @@
--- That a text says one thing, and that what is made ready is one.
+-- That a text says one thing, and that an image is built or opened, or is refused.
 use Rattle.std.proofs.Common.{◌≡◌, ◌≤◌, ◌<◌, ◌∙◌, ℕ, List, length, map, Bool, true, false, Option, Some, None, Result, Ok, Err, ◌⊎◌, inl, inr, refl, sym, ap, subst, arith}
 use Rattle.castor_base.specs.Files.{Files}
 use Rattle.castor_parse.specs.declared.query.ParseError.{ParseError}
@@ -17,13 +17,14 @@ use Rattle.castor_schema.specs.declared.error.SchemaError.TheVariants as schema
 use Rattle.castor_schema.specs.Check.{checked}
 use Rattle.castor_cli.specs.declared.command.Command.{Command}
 use Rattle.castor_cli.specs.declared.command.Command.TheVariants.{Answer, Build, Ask, Show, Code, Sample}
-use Rattle.castor_cli.specs.declared.preparation.Prepared.{Prepared}
+use Rattle.castor_image.specs.Images.{Content, IsImageOf}
 use Rattle.castor_cli.specs.declared.status.QueryFault.TheVariants as fault
 use Rattle.castor_cli.specs.declared.status.Status.{Status}
 use Rattle.castor_cli.specs.declared.status.Status.TheVariants as status
-use Rattle.castor_cli.specs.Commands.{command_of}
-use Rattle.castor_cli.specs.Outcome.{IsStarted, IsStartedBy, word}
-use Rattle.castor_cli.specs.Preparation.{IsPrepared, IsQueryIn, Says, query_fails, with_query}
+use Rattle.castor_cli.specs.Commands.{command_of, word}
+use Rattle.castor_cli.specs.Opening.{IsImageIn, IsOpened}
+use Rattle.castor_cli.specs.Outcome.{IsStarted, IsStartedBy}
+use Rattle.castor_cli.specs.Preparation.{IsBuilt, IsQueryIn, Says, query_fails, with_query}
 use Rattle.castor_cli.specs.Query.{ChecksTo, IsQuery, IsUnchecked, IsUnparsed}
 
 same_tokens : (text : List ℕ) (ts us : List Token) → tokens_of text ≡ Some ts → tokens_of text ≡ Some us → ts ≡ us
@@ -108,27 +109,35 @@ said_once : (file : Result (List ℕ) Status) (c d : Checked) → Says file IsQu
 said_once (Ok text) c d a b = one_checked text c d a b
 said_once (Err why) c d is h = absurd (let f : ◌≡◌ {A = Result Checked Status} (Ok c) (Err why) = is in cc f)
 
-ready_not_refused : (files : Files) (script : List ℕ) (p : Prepared) (s : Status) (c d : Checked) → c ≡ d → with_query None files script c ≡ Ok p → with_query None files script d ≡ Err s → ⊥
+ready_not_refused : (files : Files) (script : List ℕ) (p : Content) (s : Status) (c d : Checked) → c ≡ d → with_query None files script c ≡ Ok p → with_query None files script d ≡ Err s → ⊥
 ready_not_refused files script p s c d same is it =
-    let f : ◌≡◌ {A = Result Prepared Status} (Ok p) (Err s) = sym is ∙ ap (λ (x : Checked). with_query None files script x) same ∙ it in cc f
+    let f : ◌≡◌ {A = Result Content Status} (Ok p) (Err s) = sym is ∙ ap (λ (x : Checked). with_query None files script x) same ∙ it in cc f
 
-prepared_not_refused : (files : Files) (query script : List ℕ) (p : Prepared) (s : Status) → IsPrepared None files query script (Ok p) → IsPrepared None files query script (Err s) → ⊥
-prepared_not_refused files query script p s (c, says, is) (inl refused) = said_not_refused _ c s says refused
-prepared_not_refused files query script p s (c, says, is) (inr (d, too, it)) = ready_not_refused files script p s c d (said_once _ c d says too) is it
+prepared_not_refused : (files : Files) (query script : List ℕ) (p : Content) (s : Status) → IsBuilt None files query script (Ok p) → IsBuilt None files query script (Err s) → ⊥
+prepared_not_refused files query script p s (c, says, sound, is) (inl refused) = said_not_refused _ c s says refused
+prepared_not_refused files query script p s (c, says, sound, is) (inr (d, too, it)) = ready_not_refused files script p s c d (said_once _ c d says too) is it
 
-ready_is : (p : Prepared) (s r : Status) → ◌≡◌ {A = Result Prepared Status} (Ok p) (Err r) → ⊥
-ready_is p s r is = cc is
+image_not_refused : (bytes : List ℕ) (x : Content) (s : Status) → IsImageOf x bytes → IsImageIn bytes (Err s) → ⊥
+image_not_refused bytes x status.Image is none = none x is
+image_not_refused bytes x s is none = absurd none
 
-started_by_not_refused : (command : Option Command) (files : Files) (query script : List ℕ) (p : Prepared) (s : Status) → IsStartedBy command (IsPrepared None files query script) (Ok p)
-    → IsStartedBy command (IsPrepared None files query script) (Err s) → ⊥
-started_by_not_refused None files query script p s is h = ready_is p s _ is
-started_by_not_refused (Some Answer) files query script p s is h = prepared_not_refused files query script p s is h
-started_by_not_refused (Some Build) files query script p s is h = ready_is p s _ is
-started_by_not_refused (Some Ask) files query script p s is h = ready_is p s _ is
-started_by_not_refused (Some Show) files query script p s is h = ready_is p s _ is
-started_by_not_refused (Some Code) files query script p s is h = ready_is p s _ is
-started_by_not_refused (Some Sample) files query script p s is h = ready_is p s _ is
+opened_in_one_way : (file : Result (List ℕ) Status) (x : Content) (s : Status) → Says file IsImageIn (Ok x) → Says file IsImageIn (Err s) → ⊥
+opened_in_one_way (Ok bytes) x s is h = image_not_refused bytes x s is h
+opened_in_one_way (Err why) x s is h = let f : ◌≡◌ {A = Result Content Status} (Ok x) (Err why) = is in cc f
 
--- what the words ask for is made ready or is refused, and not both
-pub started_not_refused : (words : List (List ℕ)) (files : Files) (p : Prepared) (s : Status) → IsStarted words files None (Ok p) → IsStarted words files None (Err s) → ⊥
-started_not_refused words files p s is h = started_by_not_refused (command_of words) files (word words 1) (word words 2) p s is h
+ready_is : (x : Content) (s r : Status) → ◌≡◌ {A = Result Content Status} (Ok x) (Err r) → ⊥
+ready_is x s r is = cc is
+
+started_by_not_refused : (command : Option Command) (files : Files) (query script image : List ℕ) (x : Content) (s : Status) → IsStartedBy command (IsBuilt None files query script) (IsOpened None files image) (Ok x)
+    → IsStartedBy command (IsBuilt None files query script) (IsOpened None files image) (Err s) → ⊥
+started_by_not_refused None files query script image x s is h = ready_is x s _ is
+started_by_not_refused (Some Answer) files query script image x s is h = prepared_not_refused files query script x s is h
+started_by_not_refused (Some Build) files query script image x s is h = prepared_not_refused files query script x s is h
+started_by_not_refused (Some Ask) files query script image x s is h = opened_in_one_way _ x s is h
+started_by_not_refused (Some Show) files query script image x s is h = ready_is x s _ is
+started_by_not_refused (Some Code) files query script image x s is h = ready_is x s _ is
+started_by_not_refused (Some Sample) files query script image x s is h = ready_is x s _ is
+
+-- what the words ask for is there or is refused, and not both
+pub started_not_refused : (words : List (List ℕ)) (files : Files) (x : Content) (s : Status) → IsStarted words files None (Ok x) → IsStarted words files None (Err s) → ⊥
+started_not_refused words files x s is h = started_by_not_refused (command_of words) files (word words 1) (word words 2) (word words 1) x s is h

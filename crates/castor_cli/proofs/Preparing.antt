@@ -1,5 +1,5 @@
--- What ends the preparation of a query, a script and tables.
-use Rattle.std.proofs.Common.{◌≡◌, ◌⊎◌, ◌∙◌, ℕ, zero, suc, ◌+◌, List, [], ◌∷◌, Bool, true, false, Option, Some, None, Result, Ok, Err, IfSome, refl, sym, ap, subst, inl, inr, zero-add, arith, length, ◌≤◌, ◌++◌}
+-- What ends the building of an image of a query, a script and tables.
+use Rattle.std.proofs.Common.{◌≡◌, ◌⊎◌, ◌∙◌, ℕ, zero, suc, ◌+◌, List, [], ◌∷◌, Bool, true, false, if◌then◌else◌, Option, Some, None, Result, Ok, Err, IfSome, refl, sym, ap, subst, inl, inr, zero-add, arith, length, ◌≤◌, ◌++◌}
 use Rattle.std.specs.List.{slice_get}
 use Rattle.castor_base.specs.Files.{Files, SameFiles}
 use Rattle.castor_val.specs.declared.fault.Faults.{Faults}
@@ -13,15 +13,17 @@ use Rattle.castor_stage.specs.Stages.{Staged, stage}
 use Rattle.castor_schema.specs.WellTyped.{context_of}
 use Rattle.castor_schema.specs.declared.checked.Checked.{Checked}
 use Rattle.castor_schema.specs.declared.checked.Declared.{Declared}
-use Rattle.castor_cli.specs.declared.preparation.Prepared.{Prepared}
+use Rattle.castor_image.specs.Images.{Content}
 use Rattle.castor_cli.specs.declared.status.Place.TheVariants as place
 use Rattle.castor_cli.specs.declared.status.ReadFault.TheVariants as fault
 use Rattle.castor_cli.specs.declared.status.Status.{Status}
 use Rattle.castor_cli.specs.declared.status.Status.TheVariants as status
-use Rattle.castor_cli.specs.Causes.{IsDue, IsDueAmong, IsDueLater, IsOfPart, IsRefusal, NamesDeclared, NamesOneOf, NamesTable, PartRefused, PreparationRefused, RestRefused, RoseWhere, SpeaksOf, TablesRefused, file_of_status, nth_name}
+use Rattle.castor_cli.specs.Causes.{IsDue, IsDueAmong, IsDueLater, IsImageBuilt, IsOfPart, IsRefusal, NamesDeclared, NamesOneOf, NamesTable, PartRefused, PreparationRefused, PreparesRest, RestRefused, RoseWhere, SpeaksOf, TablesRefused, file_of_status, nth_name}
 use Rattle.castor_cli.specs.After.{after}
-use Rattle.castor_cli.specs.Building.{built, checked_last, if_finished, if_held, if_ordered, if_staged, keeps_order}
-use Rattle.castor_cli.specs.Preparation.{Broken, IsPrepared, IsQueryIn, ready_with, script_in, tables_behind, tables_in, with_query}
+use Rattle.castor_cli.specs.declared.status.BuildFault.TheVariants as build
+use Rattle.castor_cli.specs.Building.{BuildsImage, built, built_last, held_last, if_finished, if_held, if_ordered, if_small, if_staged, keeps_order}
+use Rattle.castor_cli.specs.Preparation.{Broken, IsBuilt, IsQueryIn, script_in, tables_behind, tables_in, with_query}
+use Rattle.castor_cli.specs.Sound.{IsSound}
 use Rattle.castor_cli.specs.Status.{table_file}
 use Rattle.castor_cli.proofs.Tables.{both_told, if_told, if_told_later, rose_where_up}
 
@@ -105,9 +107,9 @@ pub tables_well : (told later : Option Files) (script : List ℕ) (c : Checked) 
     → IfSome told (λ (files : Files). tables_behind None files script c ≡ Ok all)
 tables_well told later script c all well same rest = both_told told _ _ _ (λ files w h. tables_in_all files script c all w h) well (if_told_later told later _ same rest)
 
--- ---- the final query
+-- ---- the image
 
--- a refusal of the final query, or want of memory
+-- a refusal of what is built, or want of memory
 abbrev IsOfBuild : Status → Type 0
 IsOfBuild (status.Script why) = Unit {0}
 IsOfBuild (status.Build why) = Unit {0}
@@ -133,21 +135,28 @@ stage_refuses : (r : Staged) (q : Rel) (s : Status) → if_staged r q ≡ Err s 
 stage_refuses (Ok fine) q s is = cc is
 stage_refuses (Err why) q s is = of_build _ s tt is
 
-data_refuses : (r : Result Held Faults) (q : Rel) (s : Status) → if_held r q ≡ Err s → IsOfBuild s
-data_refuses (Ok held) q s is = cc is
-data_refuses (Err f) q s is = of_build _ s tt is
+data_refuses : (r : Result Held Faults) (s : Status) → if_held r ≡ Err s → IsOfBuild s
+data_refuses (Ok held) s is = cc is
+data_refuses (Err f) s is = of_build _ s tt is
 
-last_refuses : (q : Rel) (ts : List Table) (final : Rel) (s : Status) → checked_last q ts final ≡ Err s → IsOfBuild s
-last_refuses q ts final s is =
+size_refuses : (is_large : Bool) (x : Content) (s : Status) → (if is_large then Err (status.Build build.TooLarge) else Ok x) ≡ Err s → IsOfBuild s
+size_refuses true x s is = of_build _ s tt is
+size_refuses false x s is = cc is
+
+held_refuses : (q : Rel) (ts : List Table) (final : Rel) (s : Status) → held_last q ts final ≡ Err s → IsOfBuild s
+held_refuses q ts final s is =
     after_refuses (if_ordered (keeps_order q final) final) _ s (λ why e. order_refuses (keeps_order q final) final why e)
-    (λ a why e. after_refuses (if_staged (stage final) final) _ why (λ w d. stage_refuses (stage final) final w d) (λ b w d. data_refuses (held_data final ts) final w d) e) is
+    (λ a why e. after_refuses (if_staged (stage final) final) _ why (λ w d. stage_refuses (stage final) final w d) (λ b w d. data_refuses (held_data final ts) w d) e) is
+
+last_refuses : (c : Checked) (ts : List Table) (final : Rel) (s : Status) → built_last c ts final ≡ Err s → IsOfBuild s
+last_refuses c ts final s is = after_refuses (held_last c.query ts final) _ s (λ why e. held_refuses c.query ts final why e) (λ held why e. size_refuses _ _ why e) is
 
 built_refuses : (c : Checked) (ts : List Table) (s : Status) → built c ts ≡ Err s → IsOfBuild s
-built_refuses c ts s is = after_refuses (if_finished (finish_of (context_of c).tables c.query)) (checked_last c.query ts) s (λ why e. finish_refuses _ why e) (λ final why e. last_refuses c.query ts final why e) is
+built_refuses c ts s is = after_refuses (if_finished (finish_of (context_of c).tables c.query)) (built_last c ts) s (λ why e. finish_refuses _ why e) (λ final why e. last_refuses c ts final why e) is
 
-build_refuses : (c : Checked) (ts : List Table) (s : Status) → (s ≡ status.Memory) ⊎ (ready_with c ts ≡ Err s) → IsOfBuild s
+build_refuses : (c : Checked) (ts : List Table) (s : Status) → (s ≡ status.Memory) ⊎ (built c ts ≡ Err s) → IsOfBuild s
 build_refuses c ts s (inl memory) = subst IsOfBuild (sym memory) tt
-build_refuses c ts s (inr is) = after_refuses (built c ts) _ s (λ why e. built_refuses c ts why e) (λ final why e. cc e) is
+build_refuses c ts s (inr is) = built_refuses c ts s is
 
 build_refusal : (s : Status) → IsOfBuild s → IsRefusal s
 build_refusal (status.Script why) of = tt
@@ -161,30 +170,31 @@ build_speaks told_after rose query script ds (status.Build why) of = ([], tt, tt
 build_speaks told_after rose query script ds status.Memory of = ([], tt, tt)
 build_speaks told_after rose query script ds s of = absurd of
 
-build_due : (files : Files) (script : List ℕ) (c : Checked) (ts : List Table) (s : Status) → (s ≡ status.Memory) ⊎ (ready_with c ts ≡ Err s) → tables_behind None files script c ≡ Ok ts → IsDueLater (λ broken. with_query broken files script c) s
+build_due : (files : Files) (script : List ℕ) (c : Checked) (ts : List Table) (s : Status) → (s ≡ status.Memory) ⊎ (built c ts ≡ Err s) → tables_behind None files script c ≡ Ok ts → IsDueLater (λ broken. with_query broken files script c) s
 build_due files script c ts s (inl memory) loaded = inl memory
 build_due files script c ts s (inr is) loaded = inr (None, refl, tt, rw loaded is)
 
--- the final query was refused
-pub rest_at_build : (told told_after : Option Files) (rose : List ℕ → Type 0) (query script : List ℕ) (c : Checked) (ts : List Table) (s : Status)
-    → IfSome told (λ (files : Files). tables_behind None files script c ≡ Ok ts) → (s ≡ status.Memory) ⊎ (ready_with c ts ≡ Err s) → RestRefused told told_after rose query script c s
+-- the image was refused
+rest_at_build : (told told_after : Option Files) (rose : List ℕ → Type 0) (query script : List ℕ) (c : Checked) (ts : List Table) (s : Status)
+    → IfSome told (λ (files : Files). tables_behind None files script c ≡ Ok ts) → (s ≡ status.Memory) ⊎ (built c ts ≡ Err s) → RestRefused told told_after rose query script c s
 rest_at_build told told_after rose query script c ts s loaded why = record {
   refusal = build_refusal s (build_refuses c ts s why);
   due = if_told told _ _ (λ files. build_due files script c ts s why) loaded;
   speaks = build_speaks told_after rose query script c.tables s (build_refuses c ts s why);
 }
 
-rest_in : (files : Files) (script : List ℕ) (c : Checked) (ts : List Table) (p : Prepared) → ready_with c ts ≡ Ok p → tables_behind None files script c ≡ Ok ts → with_query None files script c ≡ Ok p
-rest_in files script c ts p is loaded = rw loaded is
+rest_in : (files : Files) (script : List ℕ) (c : Checked) (ts : List Table) (x : Content) → built c ts ≡ Ok x → tables_behind None files script c ≡ Ok ts → with_query None files script c ≡ Ok x
+rest_in files script c ts x is loaded = rw loaded is
 
--- all behind the query is well
-pub rest_well : (told : Option Files) (script : List ℕ) (c : Checked) (ts : List Table) (p : Prepared) → IfSome told (λ (files : Files). tables_behind None files script c ≡ Ok ts) → ready_with c ts ≡ Ok p
-    → IfSome told (λ (files : Files). with_query None files script c ≡ Ok p)
-rest_well told script c ts p loaded is = if_told told _ _ (λ files. rest_in files script c ts p is) loaded
+-- all behind the query is well, or the image was refused
+pub rest_built : (told told_after : Option Files) (rose : List ℕ → Type 0) (query script : List ℕ) (c : Checked) (ts : List Table) (r : Result (List ℕ) Status)
+    → IfSome told (λ (files : Files). tables_behind None files script c ≡ Ok ts) → BuildsImage (built c ts) r → PreparesRest told told_after rose query script c r
+rest_built told told_after rose query script c ts (Ok bytes) loaded (x, is, image) = (x, image, if_told told _ _ (λ files. rest_in files script c ts x is) loaded)
+rest_built told told_after rose query script c ts (Err s) loaded why = rest_at_build told told_after rose query script c ts s loaded why
 
 -- ---- the query
 
-query_due : (files : Files) (query script : List ℕ) (s : Status) → DueIn (status.Read place.Query fault.Failed) s (λ fails. IsQueryIn fails files query) → IsDue (λ broken. IsPrepared broken files query script) s
+query_due : (files : Files) (query script : List ℕ) (s : Status) → DueIn (status.Read place.Query fault.Failed) s (λ fails. IsQueryIn fails files query) → IsDue (λ broken. IsBuilt broken files query script) s
 query_due files query script s (inl memory) = inl memory
 query_due files query script s (inr (true, blames, is)) = inr (Some place.Query, blames refl, inl is)
 query_due files query script s (inr (false, blames, is)) = inr (None, tt, inl is)
@@ -213,7 +223,7 @@ refused_at_query told told_after rose query script table s r = record {
 
 -- ---- what comes after the query
 
-later_due : (files : Files) (query script : List ℕ) (c : Checked) (s : Status) → IsQueryIn false files query (Ok c) → IsDueLater (λ broken. with_query broken files script c) s → IsDue (λ broken. IsPrepared broken files query script) s
+later_due : (files : Files) (query script : List ℕ) (c : Checked) (s : Status) → IsQueryIn false files query (Ok c) → IsDueLater (λ broken. with_query broken files script c) s → IsDue (λ broken. IsBuilt broken files query script) s
 later_due files query script c s well (inl memory) = inl memory
 later_due files query script c s well (inr (broken, fine, blames, is)) = inr (broken, blames, inr (c, subst (λ (fails : Bool). IsQueryIn fails files query (Ok c)) (sym fine) well, is))
 
@@ -247,11 +257,11 @@ refused_later told later told_after rose rises query script table c s well same 
   count = later_count told_after rose rises query script c.tables s table up r.speaks names;
 }
 
--- all was made ready
-pub prepared_well : (told later : Option Files) (query script : List ℕ) (c : Checked) (p : Prepared)
-    → IfSome told (λ (files : Files). IsQueryIn false files query (Ok c)) → SameFiles told later → IfSome later (λ (files : Files). with_query None files script c ≡ Ok p)
-    → IfSome told (λ (files : Files). IsPrepared None files query script (Ok p))
-prepared_well told later query script c p well same rest = both_told told _ _ _ (λ files w h. (c, w, h)) well (if_told_later told later _ same rest)
+-- an image was built
+pub prepared_well : (told later : Option Files) (query script bytes : List ℕ) (c : Checked)
+    → IsSound c → IfSome told (λ (files : Files). IsQueryIn false files query (Ok c)) → SameFiles told later → IsImageBuilt later (λ files r. with_query None files script c ≡ r) bytes
+    → IsImageBuilt told (λ files r. IsBuilt None files query script r) bytes
+prepared_well told later query script bytes c sound well same (x, image, rest) = (x, image, both_told told _ _ _ (λ files w h. (c, w, sound, h)) well (if_told_later told later _ same rest))
 
 -- ---- the name of a table by its number
 

@@ -1,5 +1,5 @@
--- The final query of a checked one over its tables, or why none is built.
-use Rattle.std.specs.Prelude.{◌==◌, ◌&&◌, List, [], Bool, Result, Ok, Err, if◌then◌else◌, not}
+-- The image of a checked query over its tables, or why none is built.
+use Rattle.std.specs.Prelude.{◌≡◌, ◌⊎◌, ℕ, ◌==◌, ◌&&◌, List, [], length, nat_lt, Bool, Result, Ok, Err, if◌then◌else◌, not}
 use Rattle.std.specs.List.{starts_with}
 use Rattle.castor_val.specs.declared.fault.Faults.{Faults}
 use Rattle.castor_val.specs.declared.table.Table.{Table}
@@ -8,6 +8,9 @@ use Rattle.castor_alg.specs.declared.rel.Key.{Key}
 use Rattle.castor_alg.specs.declared.rel.Rel.{Rel, fold-Rel}
 use Rattle.castor_alg.specs.declared.rel.Rel.TheOpen.{Rel-F}
 use Rattle.castor_alg.specs.declared.rel.Rel.TheOpen as rel
+use Rattle.castor_image.specs.declared.head.Head.{Head}
+use Rattle.castor_image.specs.Images.{Content, IsImageOf, image_of}
+use Rattle.castor_ltype.specs.Generation.{code_for}
 use Rattle.castor_schema.specs.declared.checked.Checked.{Checked}
 use Rattle.castor_schema.specs.WellTyped.{context_of}
 use Rattle.castor_script.specs.declared.step_error.StepError.{StepError}
@@ -66,18 +69,47 @@ abbrev pub if_staged : Staged → Rel → Result Rel Status
 if_staged (Ok fine) final = Ok final
 if_staged (Err why) final = Err (status.Build (build.Stage why))
 
-abbrev pub if_held : Result Held Faults → Rel → Result Rel Status
-if_held (Ok held) final = Ok final
-if_held (Err f) final = Err (status.Build (build.Faults f))
+abbrev pub if_held : Result Held Faults → Result Held Status
+if_held (Ok held) = Ok held
+if_held (Err f) = Err (status.Build (build.Faults f))
 
--- the order of the rows, then what is computed when, and then the stored values of a final query, each checked in this order
-abbrev pub checked_last : Rel → List Table → Rel → Result Rel Status
-checked_last q tables final =
+-- the order of the rows, then what is computed when, and then the stored values of a final query, each checked in this
+-- order: what is held for it
+abbrev pub held_last : Rel → List Table → Rel → Result Held Status
+held_last q tables final =
     after (if_ordered (keeps_order q final) final) (λ ordered.
     after (if_staged (stage final) final) (λ staged.
-    if_held (held_data final tables) final))
+    if_held (held_data final tables)))
 
--- the final query of a checked one over its tables, or the first refusal: first that of the script, and then those of
--- the final query
-abbrev pub built : Checked → List Table → Result Rel Status
-built c tables = after (if_finished (finish_of (context_of c).tables c.query)) (checked_last c.query tables)
+-- the parameters and columns of a checked query
+abbrev pub head_of : Checked → Head
+head_of c = record { params = c.params; columns = c.columns }
+
+-- what the image of a final query holds: the code with the least ranges for what is held
+abbrev pub content_of : Checked → Rel → Held → Content
+content_of c final held = record { head = head_of c; code = code_for final (context_of c) held; held = held }
+
+-- the limit on an image, in bytes
+abbrev pub image_limit : ℕ
+image_limit = 268435456
+
+-- the number of bytes of the image
+abbrev pub image_size : Content → ℕ
+image_size x = length (image_of x.head x.code x.held)
+
+abbrev pub if_small : Content → Result Content Status
+if_small x = if nat_lt image_limit (image_size x) then Err (status.Build build.TooLarge) else Ok x
+
+-- what the image of a final query holds, or the first refusal
+abbrev pub built_last : Checked → List Table → Rel → Result Content Status
+built_last c tables final = after (held_last c.query tables final) (λ held. if_small (content_of c final held))
+
+-- what the image of a checked query over its tables holds, or the first refusal: first that of the script, and then those
+-- of the final query
+abbrev pub built : Checked → List Table → Result Content Status
+built c tables = after (if_finished (finish_of (context_of c).tables c.query)) (built_last c tables)
+
+-- the bytes are the image that is due, or there is the refusal that is due, or want of memory
+abbrev pub BuildsImage : Result Content Status → Result (List ℕ) Status → Type 0
+BuildsImage due (Ok bytes) = (x : Content) × (due ≡ Ok x) × IsImageOf x bytes
+BuildsImage due (Err s) = (s ≡ status.Memory) ⊎ (due ≡ Err s)

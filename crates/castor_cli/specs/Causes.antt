@@ -1,4 +1,4 @@
--- Why a run stopped before it read its input.
+-- Why no image of a query is built.
 use Rattle.std.specs.Prelude.{map, ◌≡◌, ◌⊎◌, ℕ, zero, suc, ◌+◌, ◌≤◌, ◌++◌, List, [], ◌∷◌, length, Bool, true, false, Option, Some, None, Result, Ok, Err, All, IfSome}
 use Rattle.std.specs.declared.vec.Vec.{Vec}
 use Rattle.std.specs.declared.alloc.Global.{Global}
@@ -8,7 +8,7 @@ use Rattle.castor_base.specs.declared.failed.ShelfError.TheVariants as shelf
 use Rattle.castor_val.specs.declared.table.Table.{Table}
 use Rattle.castor_schema.specs.declared.checked.Checked.{Checked}
 use Rattle.castor_schema.specs.declared.checked.Declared.{Declared}
-use Rattle.castor_cli.specs.declared.preparation.Prepared.{Prepared}
+use Rattle.castor_image.specs.Images.{Content, IsImageOf}
 use Rattle.castor_cli.specs.declared.preparation.Stop.{Stop}
 use Rattle.castor_cli.specs.declared.status.Place.{Place}
 use Rattle.castor_cli.specs.declared.status.Place.TheVariants as place
@@ -16,8 +16,8 @@ use Rattle.castor_cli.specs.declared.status.ReadFault.TheVariants as fault
 use Rattle.castor_cli.specs.declared.status.Status.{Status}
 use Rattle.castor_cli.specs.declared.status.Status.TheVariants as status
 use Rattle.castor_alg.specs.Fits.{tables_fit}
-use Rattle.castor_schema.specs.WellTyped.{IsClosed, IsWellTyped, column_types_of, context_of}
-use Rattle.castor_cli.specs.Preparation.{Broken, IsPrepared, IsQueryIn, query_fails, readable, script_in, table_in, tables_behind, tables_in, with_query}
+use Rattle.castor_schema.specs.WellTyped.{column_types_of}
+use Rattle.castor_cli.specs.Preparation.{Broken, IsBuilt, IsQueryIn, query_fails, readable, script_in, table_in, tables_behind, tables_in, with_query}
 use Rattle.castor_cli.specs.Status.{table_file}
 
 -- the status of a file that can't be read
@@ -82,29 +82,9 @@ NamesDeclared files query (status.Read (place.Table i) why) name = (c : Checked)
 NamesDeclared files query (status.Table i why) name = (c : Checked) × IsQueryIn false files query (Ok c) × (name ≡ nth_name c.tables i)
 NamesDeclared files query s name = Unit {0}
 
--- the declarations have at most 64 columns each
-abbrev pub AreNarrow : List Declared → Type 0
-AreNarrow ds = All (λ (d : Declared). length d.columns ≤ 64) ds
-
--- at most 16 tables of at most 64 columns each, and at most 16 parameters
-pub record IsSmall (c : Checked) : Type 0 where
-  pub tables : length c.tables ≤ 16
-  pub narrow : AreNarrow c.tables
-  pub params : length c.params ≤ 16
-
--- the query of a checked one is closed and well typed, over few tables and parameters
-pub record IsSound (c : Checked) : Type 0 where
-  pub small : IsSmall c
-  pub typed : IsWellTyped c
-  pub closed : IsClosed c
-
 -- tables behind others have rows of the types that their declarations give them
 abbrev pub FitBehind : List Declared → List Table → List Table → Type 0
 FitBehind ds old new = (ts : List Table) × (new ≡ old ++ ts) × (tables_fit ts (map (λ (d : Declared). column_types_of d.columns) ds) ≡ true)
-
--- tables have rows of the types that the declarations give them
-abbrev pub TablesFit : Checked → List Table → Type 0
-TablesFit c ts = tables_fit ts (context_of c).tables ≡ true
 
 -- the file is there, with these bytes, within the limit
 abbrev pub Stands : ℕ → List ℕ → Option (List ℕ) → Type 0
@@ -218,19 +198,23 @@ abbrev pub PreparesTables : Option Files → Option Files → (List ℕ → Type
 PreparesTables told told_after rose query script c (Ok ts) = IfSome told (λ (files : Files). tables_behind None files script c ≡ Ok ts)
 PreparesTables told told_after rose query script c (Err s) = RestRefused told told_after rose query script c s
 
+-- the bytes are the image of what is built, where the files are told
+abbrev pub IsImageBuilt : Option Files → (Files → Result Content Status → Type 0) → List ℕ → Type 0
+IsImageBuilt told built bytes = (x : Content) × IsImageOf x bytes × IfSome told (λ (files : Files). built files (Ok x))
+
 -- what preparing all behind a checked query gives
-abbrev pub PreparesRest : Option Files → Option Files → (List ℕ → Type 0) → List ℕ → List ℕ → Checked → Result (List Table) Status → Type 0
-PreparesRest told told_after rose query script c (Ok ts) = IfSome told (λ (files : Files). with_query None files script c ≡ Ok (record { checked = c; tables = ts }))
+abbrev pub PreparesRest : Option Files → Option Files → (List ℕ → Type 0) → List ℕ → List ℕ → Checked → Result (List ℕ) Status → Type 0
+PreparesRest told told_after rose query script c (Ok bytes) = IsImageBuilt told (λ files r. with_query None files script c ≡ r) bytes
 PreparesRest told told_after rose query script c (Err s) = RestRefused told told_after rose query script c s
 
 -- a status that ends the preparation
 pub record PreparationRefused (told told_after : Option Files) (rose : List ℕ → Type 0) (query script : List ℕ) (s : Status) (table : List ℕ) : Type 0 where
   pub refusal : IsRefusal s
-  pub due : IfSome told (λ (files : Files). IsDue (λ broken. IsPrepared broken files query script) s)
+  pub due : IfSome told (λ (files : Files). IsDue (λ broken. IsBuilt broken files query script) s)
   pub names : IfSome told (λ (files : Files). NamesDeclared files query s table)
   pub count : RoseWhere told_after (rose (file_of_status query script table s)) s
 
 -- what preparing a query, a script and tables gives
-abbrev pub Prepares : Option Files → Option Files → (List ℕ → Type 0) → List ℕ → List ℕ → Result Prepared Stop → Type 0
-Prepares told told_after rose query script (Ok p) = IfSome told (λ (files : Files). IsPrepared None files query script (Ok p))
+abbrev pub Prepares : Option Files → Option Files → (List ℕ → Type 0) → List ℕ → List ℕ → Result (Vec ℕ Global) Stop → Type 0
+Prepares told told_after rose query script (Ok image) = IsImageBuilt told (λ files r. IsBuilt None files query script r) image.items
 Prepares told told_after rose query script (Err stop) = PreparationRefused told told_after rose query script stop.status stop.table

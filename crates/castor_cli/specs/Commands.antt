@@ -1,5 +1,5 @@
 -- What the words after the program's name ask for.
-use Rattle.std.specs.Prelude.{ℕ, ◌==◌, List, [], ◌∷◌, Bool, true, false, not, ◌&&◌, ◌||◌, nat_le, length, codes, Option, Some, None, if◌then◌else◌}
+use Rattle.std.specs.Prelude.{ℕ, ◌==◌, List, [], ◌∷◌, Bool, true, false, not, ◌&&◌, ◌||◌, nat_le, length, codes, Option, Some, None, if◌then◌else◌, slice_index_or}
 use Rattle.std.specs.List.{list_all}
 use Rattle.std.specs.Str.{bytes_eq}
 use Rattle.castor_cli.specs.declared.command.Command.{Command}
@@ -45,3 +45,22 @@ command_of (verb ∷ a ∷ []) = of_one verb a
 command_of (verb ∷ a ∷ b ∷ []) = of_two verb
 command_of (verb ∷ a ∷ b ∷ c ∷ []) = of_three verb
 command_of (verb ∷ a ∷ b ∷ c ∷ d ∷ more) = None
+
+-- a word, and no bytes where there are fewer
+abbrev pub word : List (List ℕ) → ℕ → List ℕ
+word words i = slice_index_or words i []
+
+-- the name of the image among the words of a command
+abbrev pub image_name : Option Command → List (List ℕ) → List ℕ
+image_name (Some Ask) words = word words 1
+image_name command words = word words 3
+
+-- the names of files
+pub record Names : Type 0 where
+  pub query : List ℕ
+  pub script : List ℕ
+  pub image : List ℕ
+
+-- the names that words give the files of a command
+abbrev pub names_in : List (List ℕ) → Names
+names_in words = record { query = word words 1; script = word words 2; image = image_name (command_of words) words }

@@ -6,7 +6,10 @@ pub mod Commands
 pub mod Complete
 pub mod Faults
 pub mod Gives
+pub mod Headline
+pub mod Laying
 pub mod Lines
+pub mod Opening
 pub mod Outcome
 pub mod Preparation
 pub mod Printing
@@ -14,5 +17,6 @@ pub mod Puts
 pub mod Query
 pub mod Replies
 pub mod Script
+pub mod Sound
 pub mod Status
 pub mod Telling

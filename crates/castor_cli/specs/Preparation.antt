@@ -1,4 +1,4 @@
--- What is made ready before the input is read, check by check, or the status that the first refusal gives.
+-- The image of a query, a script and tables, check by check, or the status that the first refusal gives.
 use Rattle.std.specs.Prelude.{◌≡◌, ◌⊎◌, ℕ, zero, suc, ◌+◌, ◌&&◌, ◌==◌, List, [], ◌∷◌, Bool, true, false, nat_lt, length, Option, Some, None, Result, Ok, Err, codes, if◌then◌else◌}
 use Rattle.castor_base.specs.Files.{Files}
 use Rattle.castor_val.specs.declared.table.Table.{Table}
@@ -12,11 +12,12 @@ use Rattle.castor_cli.specs.declared.status.Place.TheVariants as place
 use Rattle.castor_cli.specs.declared.status.ReadFault.TheVariants as fault
 use Rattle.castor_cli.specs.declared.status.Status.{Status}
 use Rattle.castor_cli.specs.declared.status.Status.TheVariants as status
-use Rattle.castor_cli.specs.declared.preparation.Prepared.{Prepared}
+use Rattle.castor_image.specs.Images.{Content}
 use Rattle.castor_cli.specs.After.{after}
 use Rattle.castor_cli.specs.Building.{built}
 use Rattle.castor_cli.specs.Query.{IsQuery}
 use Rattle.castor_cli.specs.Script.{are_finish}
+use Rattle.castor_cli.specs.Sound.{IsSound}
 use Rattle.castor_cli.specs.Status.{table_file}
 
 -- what a run's devices did: the place that failed, if one did
@@ -30,6 +31,10 @@ query_fails b = false
 abbrev pub script_fails : Broken → Bool
 script_fails (Some place.Script) = true
 script_fails b = false
+
+abbrev pub image_fails : Broken → Bool
+image_fails (Some place.Image) = true
+image_fails b = false
 
 -- the number of the table whose file failed
 abbrev pub failing_table : Broken → Option ℕ
@@ -94,16 +99,12 @@ IsQueryIn fails files query r = Says (readable fails place.Query text_limit (fil
 abbrev pub tables_behind : Broken → Files → List ℕ → Checked → Result (List Table) Status
 tables_behind broken files script c = after (script_in (script_fails broken) files script) (λ done. tables_in (failing_table broken) files 0 c.tables)
 
--- a checked query with its tables, where its final query is built
-abbrev pub ready_with : Checked → List Table → Result Prepared Status
-ready_with c ts = after (built c ts) (λ final. Ok (record { checked = c; tables = ts }))
+-- the script, then the tables, and then the image, of a checked query
+abbrev pub with_query : Broken → Files → List ℕ → Checked → Result Content Status
+with_query broken files script c = after (tables_behind broken files script c) (built c)
 
--- the script, then the tables, and then the final query, of a checked query
-abbrev pub with_query : Broken → Files → List ℕ → Checked → Result Prepared Status
-with_query broken files script c = after (tables_behind broken files script c) (ready_with c)
-
--- The query, the script and the tables, each read and then checked, and then the final query, in this order: what is
--- ready then, or the first refusal.
-abbrev pub IsPrepared : Broken → Files → List ℕ → List ℕ → Result Prepared Status → Type 0
-IsPrepared broken files query script (Ok p) = (c : Checked) × IsQueryIn (query_fails broken) files query (Ok c) × (with_query broken files script c ≡ Ok p)
-IsPrepared broken files query script (Err s) = IsQueryIn (query_fails broken) files query (Err s) ⊎ ((c : Checked) × IsQueryIn (query_fails broken) files query (Ok c) × (with_query broken files script c ≡ Err s))
+-- The query, the script and the tables, each read and then checked, and then the image, in this order: what the image
+-- holds, or the first refusal. The checked query is sound, as each is.
+abbrev pub IsBuilt : Broken → Files → List ℕ → List ℕ → Result Content Status → Type 0
+IsBuilt broken files query script (Ok x) = (c : Checked) × IsQueryIn (query_fails broken) files query (Ok c) × IsSound c × (with_query broken files script c ≡ Ok x)
+IsBuilt broken files query script (Err s) = IsQueryIn (query_fails broken) files query (Err s) ⊎ ((c : Checked) × IsQueryIn (query_fails broken) files query (Ok c) × (with_query broken files script c ≡ Err s))

@@ -1,5 +1,5 @@
 -- The number of each status, and the line that tells of it.
-use Rattle.std.specs.Prelude.{ℕ, List, [], ◌∷◌, ◌++◌, codes, flat_map, slice_index_or}
+use Rattle.std.specs.Prelude.{ℕ, List, [], ◌∷◌, ◌++◌, codes, flat_map}
 use Rattle.std.specs.Fmt.{decimal}
 use Rattle.castor_load.specs.declared.error.LoadError.{LoadError}
 use Rattle.castor_load.specs.declared.error.LoadError.TheVariants as load
@@ -22,6 +22,7 @@ use Rattle.castor_cli.specs.declared.status.ScriptFault.{ScriptFault}
 use Rattle.castor_cli.specs.declared.status.ScriptFault.TheVariants as script
 use Rattle.castor_cli.specs.declared.status.Status.{Status}
 use Rattle.castor_cli.specs.declared.status.Status.TheVariants as status
+use Rattle.castor_cli.specs.Commands.{command_of, image_name, word}
 use Rattle.castor_cli.specs.Faults.{kinds_text}
 
 abbrev pub code_of : Status → ℕ
@@ -32,6 +33,7 @@ code_of (status.Write p) = 4
 code_of (status.Query why) = 5
 code_of (status.Script why) = 6
 code_of (status.Table i why) = 7
+code_of status.Image = 8
 code_of (status.Build why) = 9
 code_of status.TooLong = 10
 code_of status.Memory = 11
@@ -43,10 +45,10 @@ table_file table = table ++ codes ".csv"
 
 -- what a place is called: a file by its name, which the words or the query give
 abbrev pub place_name : List (List ℕ) → List ℕ → Place → List ℕ
-place_name words table place.Query = slice_index_or words 1 []
-place_name words table place.Script = slice_index_or words 2 []
+place_name words table place.Query = word words 1
+place_name words table place.Script = word words 2
 place_name words table (place.Table i) = table_file table
-place_name words table place.Image = slice_index_or words 3 []
+place_name words table place.Image = image_name (command_of words) words
 place_name words table place.Input = codes "input"
 place_name words table place.Output = codes "output"
 
@@ -104,6 +106,7 @@ abbrev pub build_line : BuildFault → List ℕ
 build_line build.OrderLost = codes "castor: build: order lost\n"
 build_line (build.Stage why) = stage_line why
 build_line (build.Faults f) = in_a_row (codes "castor: build: faults " ∷ kinds_text f ∷ codes "\n" ∷ [])
+build_line build.TooLarge = codes "castor: build: image too large\n"
 
 abbrev pub fault_end : ReadFault → List ℕ
 fault_end fault.Absent = codes ": absent\n"
@@ -119,6 +122,7 @@ error_text words table (status.Write p) = codes "castor: write " ++ place_name w
 error_text words table (status.Query why) = query_line why
 error_text words table (status.Script why) = script_line why
 error_text words table (status.Table i why) = table_line table why
+error_text words table status.Image = codes "castor: image: not an image\n"
 error_text words table (status.Build why) = build_line why
 error_text words table status.TooLong = codes "castor: input: too long\n"
 error_text words table status.Memory = codes "castor: memory\n"

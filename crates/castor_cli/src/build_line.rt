@@ -63,5 +63,6 @@ pub fn put_build_line<E: Sink>(err: &mut E, why: BuildFault) -> Result<(), Faile
             kinds_text(faults).as_bytes(),
             b"\n",
         ),
+        BuildFault::TooLarge => put_line(err, b"castor: build: image too large\n"),
     }
 }

@@ -1,168 +1,52 @@
-//! The final query of a checked one, and why none is built.
+//! The image of a checked query over its tables, and why none is built.
 
-ghost use Rattle.std.specs.Prelude.{◌≡◌, IfOk, map};
-ghost use Rattle.std.specs.List.{starts_with};
-ghost use Rattle.castor_val.specs.declared.table.Table.{Table};
-ghost use Rattle.castor_schema.specs.WellTyped.{IsWellTyped, column_types_of, context_of};
-ghost use Rattle.castor_script.specs.Finish.{finish_of};
-ghost use Rattle.castor_stage.specs.HeldData.{held_data};
-ghost use Rattle.castor_stage.specs.Stages.{stage as stage_of};
-ghost use Rattle.castor_cli.specs.Building.{built, checked_last, if_finished, if_held, if_ordered, if_staged, is_unfinished, keeps_order, same_key};
-ghost use Rattle.castor_cli.specs.Causes.{TablesFit};
-ghost use Rattle.castor_cli.specs.Gives.{GivesStatus};
+ghost use Rattle.castor_cli.specs.Building.{BuildsImage, built, built_last};
+ghost use Rattle.castor_cli.specs.Causes.{items_of};
+ghost use Rattle.castor_cli.specs.Sound.{IsSound, TablesFit};
+ghost use Rattle.castor_cli.specs.Laying.{IsFinal};
 
-use crate::status::{BuildFault, ScriptFault, Status};
-use castor_alg::{Context, Key, Rel, copy};
-use castor_schema::{Checked, Declared};
-use castor_script::{StepError, finish, orders};
-use castor_stage::{HoldError, hold, stage};
-use castor_val::{Column, Memory, Table, Ty};
-use sqlite_items::Items;
+use crate::finishing::{finished, hold_last};
+use crate::imaging::image_of;
+use crate::status::Status;
+use castor_alg::Rel;
+use castor_schema::Checked;
+use castor_val::Table;
 use std::alloc::Global;
 
-// The types of columns.
-fn types_of(alloc: Global, columns: &[Column]) -> Result<Items<Ty>, Memory>
-    ensures { IfOk result (λ types. types ≡ column_types_of columns.now) }
+// The image of a final query, after the checks of it.
+fn build_last(
+    alloc: Global,
+    checked: &Checked,
+    last: &Rel,
+    tables: &[Table],
+) -> Result<Vec<u8>, Status>
+    requires sound { IsSound checked.now }
+    requires fit { TablesFit checked.now tables.now }
+    requires made { IsFinal checked.now last.now }
+    ensures { BuildsImage (built_last checked.now tables.now last.now) (items_of result) }
 {
-    let mut types = Items::new(alloc);
-    for column in columns {
-        types.push(column.ty)?;
-    }
-    Ok(types)
-}
-
-// The column types of tables.
-fn types_of_tables(alloc: Global, tables: &[Declared]) -> Result<Items<Items<Ty>>, Memory>
-    ensures { IfOk result (λ types. types ≡ map (λ t. column_types_of t.columns) tables.now) }
-{
-    let mut all = Items::new(alloc);
-    for table in tables {
-        all.push(types_of(alloc, table.columns.as_slice())?)?;
-    }
-    Ok(all)
-}
-
-// The types of the tables and parameters, and no scope.
-fn context_of(alloc: Global, checked: &Checked) -> Result<Context, Memory>
-    ensures { IfOk result (λ context. context ≡ context_of checked.now) }
-{
-    let tables = types_of_tables(alloc, checked.tables.as_slice())?;
-    let params = types_of(alloc, checked.params.as_slice())?;
-    Ok(Context {
-        tables,
-        scopes: Items::new(alloc),
-        params,
-    })
-}
-
-// The status of a script whose only step is refused.
-fn unfinished(why: StepError) -> Status
-    ensures { result ≡ is_unfinished why }
-{
-    match why {
-        StepError::Memory => Status::Memory,
-        _ => Status::Script(ScriptFault::Refused { index: 0, why }),
-    }
-}
-
-// The query that the script `finish;` makes of a checked one.
-fn finished(alloc: Global, checked: &Checked) -> Result<Rel, Status>
-    requires typed { IsWellTyped checked.now }
-    ensures { GivesStatus (λ q. q) (if_finished (finish_of (context_of checked.now).tables checked.now.query)) result }
-{
-    let Ok(context) = context_of(alloc, checked) else {
-        return Err(Status::Memory);
-    };
-    let Ok(query) = copy(alloc, &checked.query) else {
-        return Err(Status::Memory);
-    };
-    match finish(alloc, query, &context) {
-        Ok(query) => Ok(query),
-        Err(why) => Err(unfinished(why)),
-    }
-}
-
-// Whether the order of a query is known to be that of its final query.
-fn keeps_order(alloc: Global, query: &Rel, last: &Rel) -> Result<bool, Memory>
-    ensures { IfOk result (λ kept. kept ≡ keeps_order query.now last.now) }
-{
-    match query {
-        Rel::Order(keys, _) => {
-            let known = orders(alloc, last)?;
-            Ok(begins_with(&known, keys.as_slice()))
-        }
-        _ => Ok(true),
-    }
-}
-
-fn begins_with(known: &[Key], keys: &[Key]) -> bool
-    ensures { result ≡ starts_with same_key known.now keys.now }
-{
-    known.starts_with(keys)
-}
-
-// Refuses a final query that isn't known to keep the order.
-fn check_order(alloc: Global, query: &Rel, last: &Rel) -> Result<(), Status>
-    ensures { GivesStatus (λ done. last.now) (if_ordered (keeps_order query.now last.now) last.now) result }
-{
-    match keeps_order(alloc, query, last) {
-        Ok(true) => Ok(()),
-        Ok(false) => Err(Status::Build(BuildFault::OrderLost)),
-        Err(Memory) => Err(Status::Memory),
-    }
-}
-
-// Refuses a final query of which a part is computed too early or too late.
-fn check_stage(last: &Rel) -> Result<(), Status>
-    ensures { GivesStatus (λ done. last.now) (if_staged (stage_of last.now) last.now) result }
-{
-    match stage(last) {
-        Ok(()) => Ok(()),
-        Err(why) => Err(Status::Build(BuildFault::Stage(why))),
-    }
-}
-
-// Refuses a final query whose stored values fault.
-fn check_data(alloc: Global, last: &Rel, tables: &[Table]) -> Result<(), Status>
-    ensures { GivesStatus (λ done. last.now) (if_held (held_data last.now tables.now) last.now) result }
-{
-    match hold(alloc, last, tables) {
-        Ok(_) => Ok(()),
-        Err(HoldError::Faults(faults)) => Err(Status::Build(BuildFault::Faults(faults))),
-        Err(HoldError::Memory) => Err(Status::Memory),
-    }
-}
-
-// The checks of a final query, in their order.
-fn check_last(alloc: Global, query: &Rel, last: &Rel, tables: &[Table]) -> Result<(), Status>
-    ensures { GivesStatus (λ done. last.now) (checked_last query.now tables.now last.now) result }
-{
-    match check_order(alloc, query, last) {
-        Ok(()) => match check_stage(last) {
-            Ok(()) => check_data(alloc, last, tables),
-            Err(status) => Err(status),
-        },
+    match hold_last(alloc, &checked.query, last, tables) {
+        Ok(held) => image_of(alloc, checked, last, &held),
         Err(status) => Err(status),
     }
 }
 
-/// The final query of a checked one over its tables: what the script `finish;` makes of it.
+/// The image of a checked query over its tables: what the script `finish;` makes of the query, and what is
+/// stored for it.
 ///
 /// The refusals are, in this order: `Script` where the step is refused; `Build` with `OrderLost` where the
 /// checked query has an `orderby` at its root and the final query isn't known to keep its order, with
-/// `Stage` where a part of the final query is computed too early or too late, and with `Faults` where
-/// what it stores has faults, all of them. Else `Memory`. Costs what finishing the query and computing
-/// what it stores cost.
-pub fn build(alloc: Global, checked: &Checked, tables: &[Table]) -> Result<Rel, Status>
-    requires typed { IsWellTyped checked.now }
+/// `Stage` where a part of the final query is computed too early or too late, with `Faults` where what it
+/// stores has faults, all of them, and with `TooLarge` where the image has more than 268,435,456 bytes,
+/// which is known before it is written. Else `Memory`. Costs what finishing the query, computing what it
+/// stores and writing the image cost, each byte of which is written once.
+pub fn build(alloc: Global, checked: &Checked, tables: &[Table]) -> Result<Vec<u8>, Status>
+    requires sound { IsSound checked.now }
     requires fit { TablesFit checked.now tables.now }
-    ensures { GivesStatus (λ q. q) (built checked.now tables.now) result }
+    ensures { BuildsImage (built checked.now tables.now) (items_of result) }
 {
     match finished(alloc, checked) {
-        Ok(last) => match check_last(alloc, &checked.query, &last, tables) {
-            Ok(()) => Ok(last),
-            Err(status) => Err(status),
-        },
+        Ok(last) => build_last(alloc, checked, &last, tables),
         Err(status) => Err(status),
     }
 }

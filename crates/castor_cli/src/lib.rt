@@ -2,9 +2,12 @@
 #![tactic(auto)]
 
 mod answers;
+mod asking;
 mod build_line;
 mod building;
 mod command;
+mod finishing;
+mod imaging;
 mod lines;
 mod preparation;
 mod query;
@@ -12,11 +15,13 @@ mod query_line;
 mod reply;
 mod script;
 mod status;
+mod storing;
 mod telling;
 mod top;
 
-pub use answers::PrintError;
+pub use answers::{PrintError, answer_line};
 pub use command::{Command, command_in};
-pub use preparation::{Prepared, Stop};
+pub use preparation::Stop;
+pub use reply::reply_text;
 pub use status::{BuildFault, Place, QueryFault, ReadFault, ScriptFault, Status};
 pub use top::{castor, castor_uncounted};

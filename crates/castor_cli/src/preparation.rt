@@ -1,15 +1,15 @@
-//! What is made ready before the input is read: the checked query and its tables, of which a final query
-//! can be built.
+//! The image of a query, a script and tables, each read and checked in its order.
 
 ghost use Rattle.std.specs.Prelude.{◌≡◌, ◌≤◌, ◌+◌, List, ℕ, [], IfOk, OnOk, length, string_bytes, true};
 ghost use Rattle.castor_base.specs.Causes.{Rose};
 ghost use Rattle.castor_base.specs.Files.{SameFiles};
 ghost use Rattle.castor_load.specs.Rows.{table_of};
 ghost use Rattle.castor_val.specs.Values.{table_fits};
-ghost use Rattle.castor_schema.specs.WellTyped.{IsWellTyped, column_types_of};
-ghost use Rattle.castor_cli.specs.Causes.{AreNarrow, FitBehind, IsSmall, IsSound, LoadsAll, LoadsOne, NamesTable, Prepares, PreparesRest, PreparesTables, ReadsFile, ReadsQuery, ReadsScript, TablesFit, items_of, nth_name, read_status};
+ghost use Rattle.castor_schema.specs.WellTyped.{column_types_of};
+ghost use Rattle.castor_cli.specs.Causes.{FitBehind, LoadsAll, LoadsOne, NamesTable, Prepares, PreparesRest, PreparesTables, ReadsFile, ReadsQuery, ReadsScript, items_of, nth_name, read_status};
+ghost use Rattle.castor_cli.specs.Sound.{AreNarrow, IsSmall, IsSound, TablesFit};
 ghost use Rattle.castor_cli.specs.Gives.{GivesStatus};
-ghost use Rattle.castor_cli.specs.Preparation.{if_loaded, ready_with};
+ghost use Rattle.castor_cli.specs.Preparation.{if_loaded};
 ghost use Rattle.castor_cli.specs.Status.{table_file};
 
 use crate::building::build;
@@ -27,13 +27,6 @@ use std::alloc::Global;
 const TEXT_LIMIT: u64 = 1_048_576;
 
 const TABLE_LIMIT: u64 = 268_435_456;
-
-/// A checked query and its tables, in the order of their declarations.
-#[derive(Drop)]
-pub struct Prepared {
-    pub checked: Checked,
-    pub tables: Items<Table>,
-}
 
 /// Why a command ended, and the name of the table that the status speaks of, if it is one's.
 #[derive(Drop)]
@@ -97,8 +90,8 @@ fn read_status(place: Place, error: ShelfError) -> Status
     }
 }
 
-// Reads a file of at most so many bytes.
-fn read_file<S: Shelf>(
+/// Reads a file of at most so many bytes, or says by a status why it can't be read. No file changes.
+pub fn read_file<S: Shelf>(
     alloc: Global,
     shelf: &mut S,
     place: Place,
@@ -107,6 +100,7 @@ fn read_file<S: Shelf>(
 ) -> Result<Vec<u8>, Status>
     ensures same { SameFiles (S.files shelf.old) (S.files shelf.new) }
     ensures reads { (n : List ℕ) → S.read_faults shelf.old n ≤ S.read_faults shelf.new n }
+    ensures writes { (n : List ℕ) → S.write_faults shelf.old n ≤ S.write_faults shelf.new n }
     ensures reading { ReadsFile (S.files shelf.old) (S.files shelf.new) (Rose (S.read_faults shelf.old name.now) (S.read_faults shelf.new name.now))
         place limit name.now (items_of result) }
 {
@@ -147,6 +141,7 @@ fn load_table<S: Shelf>(
     requires { length declared.now.columns ≤ 64 }
     ensures same { SameFiles (S.files shelf.old) (S.files shelf.new) }
     ensures reads { (n : List ℕ) → S.read_faults shelf.old n ≤ S.read_faults shelf.new n }
+    ensures writes { (n : List ℕ) → S.write_faults shelf.old n ≤ S.write_faults shelf.new n }
     ensures loads { LoadsOne (S.files shelf.old) (S.files shelf.new)
         (Rose (S.read_faults shelf.old (table_file declared.now.name)) (S.read_faults shelf.new (table_file declared.now.name)))
         number declared.now result }
@@ -179,6 +174,7 @@ fn load_tables<S: Shelf>(
     requires narrow { AreNarrow declared.now }
     ensures same { SameFiles (S.files shelf.old) (S.files shelf.new) }
     ensures reads { (n : List ℕ) → S.read_faults shelf.old n ≤ S.read_faults shelf.new n }
+    ensures writes { (n : List ℕ) → S.write_faults shelf.old n ≤ S.write_faults shelf.new n }
     ensures loads { LoadsAll (S.files shelf.old) (S.files shelf.new) (λ name. Rose (S.read_faults shelf.old name) (S.read_faults shelf.new name))
         number declared.now tables.old tables.new result }
     ensures fits { OnOk result (FitBehind declared.now tables.old tables.new) }
@@ -199,6 +195,7 @@ fn load_tables<S: Shelf>(
 fn read_steps<S: Shelf>(alloc: Global, shelf: &mut S, script: &str) -> Result<(), Status>
     ensures same { SameFiles (S.files shelf.old) (S.files shelf.new) }
     ensures reads { (n : List ℕ) → S.read_faults shelf.old n ≤ S.read_faults shelf.new n }
+    ensures writes { (n : List ℕ) → S.write_faults shelf.old n ≤ S.write_faults shelf.new n }
     ensures reading { ReadsScript (S.files shelf.old) (S.files shelf.new)
         (Rose (S.read_faults shelf.old script.now) (S.read_faults shelf.new script.now)) script.now result }
 {
@@ -216,6 +213,7 @@ fn read_steps<S: Shelf>(alloc: Global, shelf: &mut S, script: &str) -> Result<()
 fn read_checked<S: Shelf>(alloc: Global, shelf: &mut S, query: &str) -> Result<Checked, Status>
     ensures same { SameFiles (S.files shelf.old) (S.files shelf.new) }
     ensures reads { (n : List ℕ) → S.read_faults shelf.old n ≤ S.read_faults shelf.new n }
+    ensures writes { (n : List ℕ) → S.write_faults shelf.old n ≤ S.write_faults shelf.new n }
     ensures reading { ReadsQuery (S.files shelf.old) (S.files shelf.new)
         (Rose (S.read_faults shelf.old query.now) (S.read_faults shelf.new query.now)) query.now result }
     ensures sound { IfOk result IsSound }
@@ -237,6 +235,7 @@ fn prepare_tables<S: Shelf>(
     requires { IsSmall checked.now }
     ensures same { SameFiles (S.files shelf.old) (S.files shelf.new) }
     ensures reads { (n : List ℕ) → S.read_faults shelf.old n ≤ S.read_faults shelf.new n }
+    ensures writes { (n : List ℕ) → S.write_faults shelf.old n ≤ S.write_faults shelf.new n }
     ensures tables { PreparesTables (S.files shelf.old) (S.files shelf.new) (λ name. Rose (S.read_faults shelf.old name) (S.read_faults shelf.new name))
         query.now script.now checked.now result }
     ensures fit { IfOk result (TablesFit checked.now) }
@@ -253,37 +252,23 @@ fn prepare_tables<S: Shelf>(
     }
 }
 
-// Refuses a checked query over tables of which no final query is built.
-fn check_built(alloc: Global, checked: &Checked, tables: &[Table]) -> Result<(), Status>
-    requires typed { IsWellTyped checked.now }
-    requires fit { TablesFit checked.now tables.now }
-    ensures { GivesStatus (λ done. record { checked = checked.now; tables = tables.now }) (ready_with checked.now tables.now) result }
-{
-    match build(alloc, checked, tables) {
-        Ok(_) => Ok(()),
-        Err(status) => Err(status),
-    }
-}
-
-// Reads the script and then the tables of a checked query, and sees that its final query is built.
+// Reads the script and then the tables of a checked query, and builds its image.
 fn prepare_rest<S: Shelf>(
     alloc: Global,
     shelf: &mut S,
     query: &str,
     script: &str,
     checked: &Checked,
-) -> Result<Items<Table>, Status>
+) -> Result<Vec<u8>, Status>
     requires { IsSound checked.now }
     ensures same { SameFiles (S.files shelf.old) (S.files shelf.new) }
     ensures reads { (n : List ℕ) → S.read_faults shelf.old n ≤ S.read_faults shelf.new n }
+    ensures writes { (n : List ℕ) → S.write_faults shelf.old n ≤ S.write_faults shelf.new n }
     ensures rest { PreparesRest (S.files shelf.old) (S.files shelf.new) (λ name. Rose (S.read_faults shelf.old name) (S.read_faults shelf.new name))
-        query.now script.now checked.now result }
+        query.now script.now checked.now (items_of result) }
 {
     match prepare_tables(alloc, shelf, query, script, checked) {
-        Ok(tables) => match check_built(alloc, checked, tables.as_slice()) {
-            Ok(()) => Ok(tables),
-            Err(status) => Err(status),
-        },
+        Ok(tables) => build(alloc, checked, tables.as_slice()),
         Err(status) => Err(status),
     }
 }
@@ -304,25 +289,26 @@ fn into_tables(checked: Checked) -> Items<Declared>
     tables
 }
 
-/// Reads and checks the query, then the script, then reads and loads the tables, and then sees that the
-/// final query is built, in this order.
+/// Reads and checks the query, then the script, then reads and loads the tables, and then builds the image,
+/// in this order.
 ///
 /// The stop has the first refusal in that order, or `Memory`. No file changes. Linear in the bytes
-/// that are read, and what building the final query costs, whose stored values are held meanwhile.
+/// that are read, and what building the image costs.
 pub fn prepare<S: Shelf>(
     alloc: Global,
     shelf: &mut S,
     query: &str,
     script: &str,
-) -> Result<Prepared, Stop>
+) -> Result<Vec<u8>, Stop>
     ensures same { SameFiles (S.files shelf.old) (S.files shelf.new) }
+    ensures reads { (n : List ℕ) → S.read_faults shelf.old n ≤ S.read_faults shelf.new n }
+    ensures writes { (n : List ℕ) → S.write_faults shelf.old n ≤ S.write_faults shelf.new n }
     ensures prepares { Prepares (S.files shelf.old) (S.files shelf.new) (λ name. Rose (S.read_faults shelf.old name) (S.read_faults shelf.new name))
         query.now script.now result }
-    ensures small { IfOk result (λ p. IsSmall p.checked) }
 {
     match read_checked(alloc, shelf, query) {
         Ok(checked) => match prepare_rest(alloc, shelf, query, script, &checked) {
-            Ok(tables) => Ok(Prepared { checked, tables }),
+            Ok(image) => Ok(image),
             Err(status) => Err(Stop::about(alloc, into_tables(checked), status)),
         },
         Err(status) => Err(Stop::new(alloc, status)),

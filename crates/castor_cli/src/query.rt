@@ -1,7 +1,7 @@
 //! The query that a command is about.
 
 ghost use Rattle.std.specs.Prelude.{◌≡◌, IfErr, IfOk};
-ghost use Rattle.castor_cli.specs.Causes.{IsSound};
+ghost use Rattle.castor_cli.specs.Sound.{IsSound};
 ghost use Rattle.castor_cli.specs.Query.{ReadsText, ReadsTree, Unparsed, is_unchecked, is_unparsed};
 ghost use Rattle.castor_parse.specs.Formed.{IsFormed};
 ghost use Rattle.castor_parse.specs.Parsed.{IsParsed};

@@ -1,13 +1,17 @@
 //! The text of a reply.
 
-ghost use Rattle.std.specs.Prelude.{◌≡◌, ◌++◌, IfOk, OnOk, IsTrue};
+ghost use Rattle.std.specs.Prelude.{◌≡◌, ◌++◌, IfOk, OnOk, IsTrue, map};
+ghost use Rattle.castor_alg.specs.declared.out.Out.{Out};
 ghost use Rattle.castor_load.specs.Written.{IsWriting, text_of};
 ghost use Rattle.castor_cli.specs.Faults.{kinds_text};
-ghost use Rattle.castor_cli.specs.Replies.{fault_line, has_fault, head_text, names_record, record_of, reply_text, rows_text};
+ghost use Rattle.castor_reader.specs.Answers.{values_in};
+ghost use Rattle.castor_reader.specs.Replies.{IsReply};
+ghost use Rattle.castor_cli.specs.Replies.{fault_line, head_text, names_record, record_of, reply_text, rows_text};
 
-use castor_alg::Out;
+use castor_image::Head;
 use castor_load::RecordWriter;
-use castor_val::{Column, Faults, Memory, Row};
+use castor_reader::Reply;
+use castor_val::{Cell, Column, Faults, Memory};
 use std::alloc::Global;
 
 /// The kinds of a set of faults in the order division, overflow, norows, joined by commas.
@@ -46,24 +50,23 @@ fn after_head(alloc: Global, columns: &[Column], count: usize) -> Result<RecordW
 }
 
 // The number of rows, the names of the columns, and the rows.
-fn rows_text(alloc: Global, columns: &[Column], rows: &[Row]) -> Result<Vec<u8>, Memory>
-    ensures { IfOk result (λ text. text.items ≡ rows_text columns.now rows.now) }
+fn rows_text(alloc: Global, columns: &[Column], rows: &[Vec<Cell<'_>>]) -> Result<Vec<u8>, Memory>
+    ensures { IfOk result (λ text. text.items ≡ rows_text columns.now (map values_in rows.now)) }
 {
     let mut writer = after_head(alloc, columns, rows.len())?;
     for row in rows {
-        writer.write_row(row)?;
+        writer.write_cells(row.as_slice())?;
     }
     writer.finish()
 }
 
-/// The text of a reply: the line of its faults where it has some, else the number of its rows, the
-/// record of the columns' names and the records of the rows. Linear in the text.
-pub fn reply_text(alloc: Global, columns: &[Column], out: &Out) -> Result<Vec<u8>, Memory>
-    ensures { IfOk result (λ text. text.items ≡ reply_text columns.now out.now) }
+/// The text of a reply: the line of its faults, or the number of its rows, the record of the columns'
+/// names and the records of the rows. Linear in the text.
+pub fn reply_text(alloc: Global, head: &Head, reply: &Reply<'_>) -> Result<Vec<u8>, Memory>
+    ensures { IfOk result (λ text. (out : Out) → IsReply out reply.now → text.items ≡ reply_text head.now.columns out) }
 {
-    if out.faults.is_empty() {
-        rows_text(alloc, columns, out.rows.as_slice())
-    } else {
-        fault_line(alloc, out.faults)
+    match reply {
+        Reply::Rows(rows) => rows_text(alloc, head.columns.as_slice(), rows.as_slice()),
+        Reply::Faults(faults) => fault_line(alloc, *faults),
     }
 }

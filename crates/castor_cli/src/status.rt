@@ -63,6 +63,8 @@ pub enum BuildFault {
     Stage(StageError),
     /// What the final query stores has faults.
     Faults(Faults),
+    /// The image has more than 268,435,456 bytes.
+    TooLarge,
 }
 
 /// How a run ended. `Ok` means that all was done; with any other status one line on the error
@@ -80,6 +82,8 @@ pub enum Status {
     Script(ScriptFault),
     /// A table, from 0, and why its file isn't one.
     Table(u32, LoadError),
+    /// The bytes of the image's file are no image.
+    Image,
     /// Why no database is built of the query.
     Build(BuildFault),
     /// The input has more than 67,108,864 bytes.
@@ -103,6 +107,7 @@ impl Status {
             Status::Query(_) => 5,
             Status::Script(_) => 6,
             Status::Table(_, _) => 7,
+            Status::Image => 8,
             Status::Build(_) => 9,
             Status::TooLong => 10,
             Status::Memory => 11,

@@ -1,13 +1,15 @@
 //! The line on the error output that tells of a status.
 
-ghost use Rattle.std.specs.Prelude.{◌≡◌, ◌++◌, ◌<◌, ◌-◌, ◌^◌, [], ◌∷◌, map, slice_index_or, string_bytes};
+ghost use Rattle.std.specs.Prelude.{◌≡◌, ◌++◌, ◌<◌, ◌-◌, ◌^◌, [], ◌∷◌, map, string_bytes};
 ghost use Rattle.std.specs.Io.KnownBytes.{Appends};
 ghost use Rattle.castor_base.specs.Causes.{Rose};
 ghost use Rattle.castor_base.specs.Moves.{AppendsPrefix};
+ghost use Rattle.castor_cli.specs.Commands.{command_of, image_name, word};
 ghost use Rattle.castor_cli.specs.Puts.{Puts};
 ghost use Rattle.castor_cli.specs.Status.{error_text, fault_end, in_a_row, place_name, table_line};
 
 use crate::build_line::{put_build_line, put_script_line};
+use crate::command::{Command, command_in};
 use crate::query_line::put_query_line;
 use crate::status::{Place, ReadFault, Status};
 use castor_base::{Failed, Sink, put_all, put_pieces};
@@ -19,11 +21,21 @@ const USAGE: &str =
 
 // A word, and no bytes where there are fewer.
 fn word(words: &[String], at: usize) -> &[u8]
-    ensures { result.now ≡ slice_index_or (map string_bytes words.now) at [] }
+    ensures { result.now ≡ word (map string_bytes words.now) at }
 {
     match words.get(at) {
         Some(word) => word.as_bytes(),
         None => b"",
+    }
+}
+
+// The name of the image among the words of a command.
+fn image_word(words: &[String]) -> &[u8]
+    ensures { result.now ≡ image_name (command_of (map string_bytes words.now)) (map string_bytes words.now) }
+{
+    match command_in(words) {
+        Some(Command::Ask) => word(words, 1),
+        _ => word(words, 3),
     }
 }
 
@@ -41,7 +53,7 @@ fn place_name<'a>(words: &'a [String], table: &'a str, place: Place) -> PlaceNam
         Place::Query => (word(words, 1), b""),
         Place::Script => (word(words, 2), b""),
         Place::Table(_) => (table.as_bytes(), b".csv"),
-        Place::Image => (word(words, 3), b""),
+        Place::Image => (image_word(words), b""),
         Place::Input => (b"input", b""),
         Place::Output => (b"output", b""),
     };
@@ -195,6 +207,7 @@ fn put_status<'a, E: Sink>(
         Status::Query(why) => put_query_line(err, why),
         Status::Script(why) => put_script_line(err, why),
         Status::Table(_, why) => tell_table(err, table, why),
+        Status::Image => put_line(err, b"castor: image: not an image\n"),
         Status::Build(why) => put_build_line(err, why),
         Status::TooLong => put_line(err, b"castor: input: too long\n"),
         Status::Memory => put_line(err, b"castor: memory\n"),

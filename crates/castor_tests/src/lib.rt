@@ -8,6 +8,8 @@ mod building;
 #[cfg(test)]
 mod failures;
 #[cfg(test)]
+mod images;
+#[cfg(test)]
 mod limits;
 #[cfg(test)]
 mod meaning;

@@ -57,6 +57,16 @@ pub fn run(alloc: Global, words: &[&str], world: &World<'_>) -> Result<Ran, Fail
     file(alloc, &mut files, "q1.script", world.script)?;
     file(alloc, &mut files, "orders.csv", world.table)?;
     let mut shelf = MemoryShelf::new(alloc, files, Vec::from_slice(alloc, world.shelf_fails)?);
+    run_over(alloc, words, &mut shelf, world)
+}
+
+/// Runs the words over a shelf, and the input and failures of a world.
+pub fn run_over(
+    alloc: Global,
+    words: &[&str],
+    shelf: &mut MemoryShelf,
+    world: &World<'_>,
+) -> Result<Ran, Fail> {
     let mut input = MemorySource::new(
         Vec::from_slice(alloc, world.input.as_bytes())?,
         Vec::from_slice(alloc, world.input_fails)?,
@@ -70,7 +80,7 @@ pub fn run(alloc: Global, words: &[&str], world: &World<'_>) -> Result<Ran, Fail
     let status = castor_uncounted::<_, _, _, _, Brand>(
         alloc,
         owned.as_slice(),
-        &mut shelf,
+        shelf,
         &mut input,
         &mut out,
         &mut err,
@@ -82,6 +92,40 @@ pub fn run(alloc: Global, words: &[&str], world: &World<'_>) -> Result<Ran, Fail
         errors: Vec::from_slice(alloc, err.given())?,
         input_left: input.left().len(),
     })
+}
+
+/// A shelf of a query, the script `finish;` and a table orders.csv, and the numbers of the calls that are to fail.
+pub fn shelf_of(
+    alloc: Global,
+    query: &str,
+    table: &str,
+    fails: &[u64],
+) -> Result<MemoryShelf, Fail> {
+    let mut files = BTreeMap::new(alloc);
+    file(alloc, &mut files, "q1.query", query)?;
+    file(alloc, &mut files, "q1.script", "finish;")?;
+    file(alloc, &mut files, "orders.csv", table)?;
+    Ok(MemoryShelf::new(alloc, files, Vec::from_slice(alloc, fails)?))
+}
+
+/// Runs the words over a shelf and an input, where no other device fails.
+pub fn run_with(
+    alloc: Global,
+    words: &[&str],
+    shelf: &mut MemoryShelf,
+    input: &str,
+) -> Result<Ran, Fail> {
+    let world = World {
+        query: "",
+        script: "",
+        table: "",
+        input,
+        shelf_fails: &[],
+        input_fails: &[],
+        output_fails: &[],
+        error_fails: &[],
+    };
+    run_over(alloc, words, shelf, &world)
 }
 
 /// Runs `answer` over a query, the script `finish;`, the orders and an input.

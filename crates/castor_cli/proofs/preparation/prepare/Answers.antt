@@ -4,7 +4,7 @@ use Rattle.castor_cli.proofs.preparation.prepare.Goals as goal
 
 pub returns-in-Ok-prepare_rest-clause-prepares : goal.returns-in-Ok-prepare_rest-clause-prepares
 returns-in-Ok-prepare_rest-clause-prepares g c =
-    prepared_well _ _ _ _ _ _ c.in-Ok.ensures.reading c.read_checked.ensures.same c.in-Ok-prepare_rest.ensures.rest
+    prepared_well _ _ _ _ _ _ c.in-Ok.ensures.sound c.in-Ok.ensures.reading c.read_checked.ensures.same c.in-Ok-prepare_rest.ensures.rest
 
 pub returns-in-Ok-prepare_rest-clause-same : goal.returns-in-Ok-prepare_rest-clause-same
 returns-in-Ok-prepare_rest-clause-same g c = same_again _ _ _ c.read_checked.ensures.same c.prepare_rest.ensures.same

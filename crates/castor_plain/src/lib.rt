@@ -1,15 +1,17 @@
-//! A plain evaluator of relations, for tests to compare with: it reads the meaning once more, by nested
-//! loops, and shares no code with the evaluator but the order of values.
+//! A plain evaluator of relations and a plain reader of held data, for tests to compare with: they read the meaning
+//! once more, by nested loops, and share no code with the evaluator and the reader but the order of values.
 #![tactic(auto)]
 
 pub mod aggregates;
 pub mod given;
+pub mod layout;
 pub mod meaning;
 pub mod operators;
 pub mod random;
 pub mod values;
 
 pub use given::{Binding, Given, Line};
+pub use layout::plain_layout;
 pub use meaning::plain;
 pub use operators::Plain;
 pub use random::Random;

@@ -2,12 +2,11 @@
 
 ghost use Rattle.std.specs.Prelude.{◌≡◌, ◌<◌};
 
-use crate::plain::plain_layout;
 use castor_alg::Held;
 use castor_base::Steps;
 use castor_code::Code;
 use castor_image::{Image, open_image};
-use castor_plain::{Given, Plain};
+use castor_plain::{Given, Plain, plain_layout};
 use castor_reader::{Reply, ask};
 use castor_val::{Cell, Memory, compare_rows};
 use std::alloc::Global;

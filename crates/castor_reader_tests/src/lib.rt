@@ -7,5 +7,3 @@ mod asked;
 mod comparison;
 #[cfg(test)]
 mod images;
-#[cfg(test)]
-mod plain;

@@ -1,115 +1,123 @@
-//! Devices that fail at a call.
+//! Devices that fail at a call, and what stands afterwards.
 
-use crate::world::{BY_CUSTOMER, ORDERS, Ran, World, run};
-use castor_cli::{Place, ReadFault, Status};
+use crate::world::{
+    ANSWER, ASK, BUILD, BY_CUSTOMER, ORDERS, Ran, World, build, ended, holds, is_unchanged,
+    run_over,
+};
+use castor_cli::{Place, Status};
 use std::alloc::Global;
+use std::process::Abort;
 use std::test::Fail;
 
-// Which device fails, and at which of its calls.
-enum Failing {
-    Shelf,
-    Input,
-    Output,
-    Errors,
+const INPUT: &str = "ann\nbob\n";
+
+const FIRST_REPLY: &str = "rows 2\nid,cust,total\n1,ann,30\n3,ann,5\n";
+
+fn orders() -> World<'static> {
+    World::of(BY_CUSTOMER, ORDERS, INPUT)
 }
 
-fn with_failure(alloc: Global, failing: Failing, call: u64) -> Result<Ran, Fail> {
+// The reads of `answer` and `build`, by the numbers of their calls.
+const READS: [&str; 3] = [
+    "castor: read q1.query: failed\n",
+    "castor: read q1.script: failed\n",
+    "castor: read orders.csv: failed\n",
+];
+
+// That a command ends with a line where a call of the shelf fails, and leaves the files as they were.
+fn shelf_fails(
+    rt: &impl Abort,
+    alloc: Global,
+    words: &[&str],
+    call: u64,
+    code: u8,
+    line: &str,
+) -> Result<(), Fail> {
     let calls = [call];
-    let none: [u64; 0] = [];
-    let mut world = World {
-        query: BY_CUSTOMER,
-        script: "finish;",
-        table: ORDERS,
-        input: "ann\nbob\n",
-        shelf_fails: &none,
-        input_fails: &none,
-        output_fails: &none,
-        error_fails: &none,
-    };
-    match failing {
-        Failing::Shelf => world.shelf_fails = &calls,
-        Failing::Input => world.input_fails = &calls,
-        Failing::Output => world.output_fails = &calls,
-        Failing::Errors => world.error_fails = &calls,
-    }
-    run(alloc, &["answer", "q1.query", "q1.script"], &world)
-}
-
-#[test]
-fn each_read_of_the_shelf_may_fail(rt: HostRuntime) -> Result<(), Fail> {
-    let query = with_failure(rt.alloc(), Failing::Shelf, 0)?;
-    assert_eq!(rt; query.status, Status::Read(Place::Query, ReadFault::Failed));
-    assert_eq!(rt;
-        query.errors.as_slice(),
-        b"castor: read q1.query: failed\n".as_slice()
+    let mut world = orders();
+    world.shelf_fails = &calls;
+    let mut shelf = world.shelf(alloc)?;
+    ended(
+        rt,
+        &run_over(alloc, words, &mut shelf, &world)?,
+        &world,
+        code,
+        line,
     );
-    let script = with_failure(rt.alloc(), Failing::Shelf, 1)?;
-    assert_eq!(rt;
-        script.status,
-        Status::Read(Place::Script, ReadFault::Failed)
-    );
-    assert_eq!(rt;
-        script.errors.as_slice(),
-        b"castor: read q1.script: failed\n".as_slice()
-    );
-    let table = with_failure(rt.alloc(), Failing::Shelf, 2)?;
-    assert_eq!(rt;
-        table.status,
-        Status::Read(Place::Table(0), ReadFault::Failed)
-    );
-    assert_eq!(rt;
-        table.errors.as_slice(),
-        b"castor: read orders.csv: failed\n".as_slice()
-    );
+    is_unchanged(rt, &shelf, &world);
     Ok(())
 }
 
 #[test]
-fn the_input_may_fail_at_each_take(rt: HostRuntime) -> Result<(), Fail> {
+fn each_call_of_the_shelf_may_fail(rt: HostRuntime) -> Result<(), Fail> {
+    for (call, line) in READS.iter().enumerate() {
+        shelf_fails(&rt, rt.alloc(), &ANSWER, call as u64, 3, line)?;
+        shelf_fails(&rt, rt.alloc(), &BUILD, call as u64, 3, line)?;
+    }
+    let line = "castor: write q1.image: failed\n";
+    shelf_fails(&rt, rt.alloc(), &BUILD, 3, 4, line)?;
+    let line = "castor: read orders.csv: failed\n";
+    shelf_fails(&rt, rt.alloc(), &["ask", "orders.csv"], 0, 3, line)
+}
+
+// What `answer` and `ask` leave in a world, over an image that was built where no call failed. The files stay.
+fn both(rt: &impl Abort, alloc: Global, world: &World<'_>) -> Result<[Ran; 2], Fail> {
+    let mut shelf = build(rt, alloc, &orders())?;
+    let asked = run_over(alloc, &ASK, &mut shelf, world)?;
+    let answered = run_over(alloc, &ANSWER, &mut shelf, world)?;
+    holds(rt, &shelf, "q1.query", world.query);
+    holds(rt, &shelf, "q1.script", world.script);
+    holds(rt, &shelf, "orders.csv", world.table);
+    Ok([asked, answered])
+}
+
+#[test]
+fn each_take_of_the_input_may_fail(rt: HostRuntime) -> Result<(), Fail> {
     for call in [0u64, 1] {
-        let ran = with_failure(rt.alloc(), Failing::Input, call)?;
-        assert_eq!(rt; ran.status, Status::Read(Place::Input, ReadFault::Failed));
-        assert_eq!(rt;
-            ran.errors.as_slice(),
-            b"castor: read input: failed\n".as_slice()
-        );
-        assert_eq!(rt; ran.output.len(), 0);
+        let calls = [call];
+        let mut world = orders();
+        world.input_fails = &calls;
+        for ran in &both(&rt, rt.alloc(), &world)? {
+            assert_eq!(rt; ran.status.code(), 3);
+            assert_eq!(rt;
+                ran.errors.as_slice(),
+                b"castor: read input: failed\n".as_slice()
+            );
+            assert_eq!(rt; ran.output.len(), 0);
+        }
     }
     Ok(())
 }
 
 #[test]
 fn replies_before_a_failed_one_went_out(rt: HostRuntime) -> Result<(), Fail> {
-    let ran = with_failure(rt.alloc(), Failing::Output, 1)?;
-    assert_eq!(rt; ran.status, Status::Write(Place::Output));
-    assert_eq!(rt;
-        ran.errors.as_slice(),
-        b"castor: write output: failed\n".as_slice()
-    );
-    assert_eq!(rt;
-        ran.output.as_slice(),
-        b"rows 2\nid,cust,total\n1,ann,30\n3,ann,5\n".as_slice()
-    );
+    for (call, due) in [(0u64, ""), (1, FIRST_REPLY)] {
+        let calls = [call];
+        let mut world = orders();
+        world.output_fails = &calls;
+        for ran in &both(&rt, rt.alloc(), &world)? {
+            assert_eq!(rt; ran.status, Status::Write(Place::Output));
+            assert_eq!(rt;
+                ran.errors.as_slice(),
+                b"castor: write output: failed\n".as_slice()
+            );
+            assert_eq!(rt; ran.output.as_slice(), due.as_bytes());
+        }
+    }
     Ok(())
 }
 
 #[test]
 fn a_failing_error_output_changes_nothing(rt: HostRuntime) -> Result<(), Fail> {
-    let world = World {
-        query: BY_CUSTOMER,
-        script: "finish;",
-        table: "",
-        input: "ann\n",
-        shelf_fails: &[],
-        input_fails: &[],
-        output_fails: &[],
-        error_fails: &[1],
-    };
-    let ran = run(rt.alloc(), &["answer", "q1.query", "q1.script"], &world)?;
-    assert_eq!(rt;
-        ran.status,
-        Status::Read(Place::Table(0), ReadFault::Absent)
-    );
-    assert_eq!(rt; ran.errors.as_slice(), b"castor: read ".as_slice());
+    let begun = ["", "castor: read ", "castor: read q1.image"];
+    for (call, due) in begun.iter().enumerate() {
+        let calls = [call as u64];
+        let mut world = orders();
+        world.error_fails = &calls;
+        let mut shelf = world.shelf(rt.alloc())?;
+        let asked = run_over(rt.alloc(), &ASK, &mut shelf, &world)?;
+        ended(&rt, &asked, &world, 3, due);
+        is_unchanged(&rt, &shelf, &world);
+    }
     Ok(())
 }

@@ -1,34 +1,20 @@
-//! Images that are built under a name, and asked by it.
+//! The bytes of images that are built, and what else may stand under an image's name.
 
-use crate::world::{BY_CUSTOMER, ORDERS, Ran, run_with, shelf_of};
-use castor_base::MemoryShelf;
-use castor_cli::{Place, ReadFault, Status};
+use crate::world::{ASK, BUILD, BY_CUSTOMER, ORDERS, World, build, ended, replies, run_over};
+use castor_base::Shelf;
+use castor_cli::Status;
 use std::alloc::Global;
+use std::process::Abort;
 use std::test::Fail;
 
-const BUILD: [&str; 4] = ["build", "q1.query", "q1.script", "q1.image"];
+const BY_NUMBER: &str = "table orders (x int); query orders";
 
-const ASK: [&str; 2] = ["ask", "q1.image"];
+// The customers' orders by an index, which is 28 bytes of data: an offset of each bucket and its end, and
+// the entries of ann and bob.
+const INDEXED: &str = "table orders (id int, cust text, total int); param c text; \
+                       query hash(select([cust], orders) as k, filter(cust = k.cust, orders), [$c])";
 
-fn build(alloc: Global, shelf: &mut MemoryShelf) -> Result<Ran, Fail> {
-    run_with(alloc, &BUILD, shelf, "ann\n")
-}
-
-#[test]
-fn an_image_answers_as_its_query(rt: HostRuntime) -> Result<(), Fail> {
-    let mut shelf = shelf_of(rt.alloc(), BY_CUSTOMER, ORDERS, &[])?;
-    let built = build(rt.alloc(), &mut shelf)?;
-    assert_eq!(rt; built.status, Status::Ok);
-    assert_eq!(rt; built.output.len(), 0);
-    assert_eq!(rt; built.input_left, 4);
-    let asked = run_with(rt.alloc(), &ASK, &mut shelf, "ann\n1,2\nzed\n")?;
-    assert_eq!(rt; asked.status, Status::Ok);
-    let expected =
-        b"rows 2\nid,cust,total\n1,ann,30\n3,ann,5\nbad parameters\nrows 0\nid,cust,total\n";
-    assert_eq!(rt; asked.output.as_slice(), expected.as_slice());
-    assert_eq!(rt; asked.input_left, 0);
-    Ok(())
-}
+const INDEX: [u8; 28] = *b"\x00\x00\x19ann\x01\x05\x00ann\x19\x02ann\x00bob\x00\x00\x01bob\x0f";
 
 // The rows 7 and 9 of one int column: the mark, the head, the lengths 53 and 2, the code and the data.
 const SEVEN_AND_NINE: [u8; 84] = [
@@ -38,52 +24,104 @@ const SEVEN_AND_NINE: [u8; 84] = [
     0, 0, 0, 0x00, 0x02,
 ];
 
+fn image(rt: &impl Abort, alloc: Global, world: &World<'_>) -> Result<Vec<u8>, Fail> {
+    let shelf = build(rt, alloc, world)?;
+    match shelf.file("q1.image") {
+        Some(bytes) => Ok(bytes.to_vec(alloc)?),
+        None => Ok(Vec::new(alloc)),
+    }
+}
+
 #[test]
-fn writes_the_bytes_of_a_small_table(rt: HostRuntime) -> Result<(), Fail> {
-    let query = "table orders (x int); query orders";
-    let mut shelf = shelf_of(rt.alloc(), query, "x\n7\n9\n", &[])?;
-    let built = build(rt.alloc(), &mut shelf)?;
+fn a_small_table_has_these_bytes(rt: HostRuntime) -> Result<(), Fail> {
+    let world = World::of(BY_NUMBER, "x\n7\n9\n", "\n");
+    let bytes = image(&rt, rt.alloc(), &world)?;
+    assert_eq!(rt; bytes.as_slice(), SEVEN_AND_NINE.as_slice());
+    Ok(())
+}
+
+#[test]
+fn the_data_comes_last(rt: HostRuntime) -> Result<(), Fail> {
+    let extremes = "x\n-9223372036854775808\n9223372036854775807\n";
+    let data = b"\x00\x00\x00\x00\x00\x00\x00\x00\xff\xff\xff\xff\xff\xff\xff\xff";
+    let bytes = image(&rt, rt.alloc(), &World::of(BY_NUMBER, extremes, "\n"))?;
+    assert!(rt; bytes.ends_with(data));
+    let data = b"\x00ann\x19\x01bob\x0f\x02ann\x00";
+    let bytes = image(&rt, rt.alloc(), &World::of(BY_CUSTOMER, ORDERS, "ann\n"))?;
+    assert!(rt; bytes.ends_with(data));
+    let bytes = image(&rt, rt.alloc(), &World::of(INDEXED, ORDERS, "ann\n"))?;
+    assert_eq!(rt; bytes.len(), 193);
+    assert!(rt; bytes.ends_with(&INDEX));
+    Ok(())
+}
+
+// That these bytes under an image's name are refused.
+fn no_image(rt: &impl Abort, alloc: Global, bytes: &[u8]) -> Result<(), Fail> {
+    let world = World::of(INDEXED, ORDERS, "ann\n");
+    let mut shelf = world.shelf(alloc)?;
+    assert!(rt; shelf.write("q1.image", bytes).is_ok());
+    let asked = run_over(alloc, &ASK, &mut shelf, &world)?;
+    ended(rt, &asked, &world, 8, "castor: image: not an image\n");
+    assert!(rt;
+        shelf
+            .file("q1.image")
+            .is_some_and(|kept| kept.as_slice() == bytes)
+    );
+    Ok(())
+}
+
+#[test]
+fn bytes_that_are_no_image_are_refused(rt: HostRuntime) -> Result<(), Fail> {
+    let mut bytes = image(&rt, rt.alloc(), &World::of(INDEXED, ORDERS, "ann\n"))?;
+    bytes.push(0)?;
+    no_image(&rt, rt.alloc(), bytes.as_slice())?;
+    bytes.truncate(192);
+    no_image(&rt, rt.alloc(), bytes.as_slice())?;
+    bytes.push(0x0f)?;
+    // The offsets of the two buckets are exchanged.
+    for (at, byte) in bytes.iter_mut().enumerate() {
+        if at == 166 {
+            *byte = 0x19;
+        } else if at == 167 {
+            *byte = 0;
+        }
+    }
+    no_image(&rt, rt.alloc(), bytes.as_slice())?;
+    no_image(&rt, rt.alloc(), ORDERS.as_bytes())?;
+    no_image(&rt, rt.alloc(), b"")
+}
+
+#[test]
+fn keys_of_one_bucket_are_told_apart(rt: HostRuntime) -> Result<(), Fail> {
+    let world = World::of(INDEXED, ORDERS, "ann\nbob\nzed\n");
+    replies(
+        &rt,
+        rt.alloc(),
+        &world,
+        "rows 2\nid,cust,total\n1,ann,30\n3,ann,5\nrows 1\nid,cust,total\n2,bob,20\nrows 0\nid,cust,total\n",
+    )
+}
+
+#[test]
+fn a_missing_image_is_absent(rt: HostRuntime) -> Result<(), Fail> {
+    let world = World::of(BY_CUSTOMER, ORDERS, "ann\n");
+    let mut shelf = world.shelf(rt.alloc())?;
+    let asked = run_over(rt.alloc(), &ASK, &mut shelf, &world)?;
+    ended(&rt, &asked, &world, 3, "castor: read q1.image: absent\n");
+    Ok(())
+}
+
+#[test]
+fn an_image_is_written_over_an_older_one(rt: HostRuntime) -> Result<(), Fail> {
+    let world = World::of(BY_NUMBER, "x\n7\n9\n", "\n");
+    let mut shelf = world.shelf(rt.alloc())?;
+    assert!(rt; shelf.write("q1.image", b"CAST").is_ok());
+    let built = run_over(rt.alloc(), &BUILD, &mut shelf, &world)?;
     assert_eq!(rt; built.status, Status::Ok);
-    let image = shelf.file("q1.image");
-    assert!(rt; image.is_some_and(|bytes| bytes.as_slice() == SEVEN_AND_NINE.as_slice()));
-    Ok(())
-}
-
-fn refused(rt: &impl Abort, ran: &Ran, status: Status, line: &str) {
-    assert_eq!(rt; ran.status, status);
-    assert_eq!(rt; ran.errors.as_slice(), line.as_bytes());
-    assert_eq!(rt; ran.output.len(), 0);
-    assert_eq!(rt; ran.input_left, 4);
-}
-
-#[test]
-fn a_file_that_is_no_image_is_refused(rt: HostRuntime) -> Result<(), Fail> {
-    let mut shelf = shelf_of(rt.alloc(), BY_CUSTOMER, ORDERS, &[])?;
-    let ran = run_with(rt.alloc(), &["ask", "orders.csv"], &mut shelf, "ann\n")?;
-    refused(&rt, &ran, Status::Image, "castor: image: not an image\n");
-    assert_eq!(rt; ran.status.code(), 8);
-    Ok(())
-}
-
-#[test]
-fn an_image_may_be_missing_or_unread(rt: HostRuntime) -> Result<(), Fail> {
-    let mut shelf = shelf_of(rt.alloc(), BY_CUSTOMER, ORDERS, &[1])?;
-    let missing = run_with(rt.alloc(), &ASK, &mut shelf, "ann\n")?;
-    let absent = Status::Read(Place::Image, ReadFault::Absent);
-    refused(&rt, &missing, absent, "castor: read q1.image: absent\n");
-    let unread = run_with(rt.alloc(), &ASK, &mut shelf, "ann\n")?;
-    let failed = Status::Read(Place::Image, ReadFault::Failed);
-    refused(&rt, &unread, failed, "castor: read q1.image: failed\n");
-    Ok(())
-}
-
-#[test]
-fn a_write_that_fails_leaves_the_other_files(rt: HostRuntime) -> Result<(), Fail> {
-    let mut shelf = shelf_of(rt.alloc(), BY_CUSTOMER, ORDERS, &[3])?;
-    let ran = build(rt.alloc(), &mut shelf)?;
-    let failed = Status::Write(Place::Image);
-    refused(&rt, &ran, failed, "castor: write q1.image: failed\n");
-    let orders = shelf.file("orders.csv");
-    assert!(rt; orders.is_some_and(|bytes| bytes.as_slice() == ORDERS.as_bytes()));
+    assert!(rt;
+        shelf
+            .file("q1.image")
+            .is_some_and(|bytes| bytes.as_slice() == SEVEN_AND_NINE.as_slice())
+    );
     Ok(())
 }

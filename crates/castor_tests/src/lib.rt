@@ -14,6 +14,8 @@ mod limits;
 #[cfg(test)]
 mod meaning;
 #[cfg(test)]
+mod plain_replies;
+#[cfg(test)]
 mod queries;
 #[cfg(test)]
 mod refusals;

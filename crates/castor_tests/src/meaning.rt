@@ -1,14 +1,17 @@
-//! `answer` against the plain evaluator of the checked query, over generated queries.
+//! `answer` and `ask` against a plain evaluator of the query and a plain reader of its image, over generated queries.
 
 ghost use Rattle.castor_parse.specs.Formed.{IsFormed};
 
+use crate::plain_replies::{push_record, push_reply};
 use crate::queries::{OPERATORS, Operator, query};
-use crate::world::{World, run};
+use crate::world::{ANSWER, ASK, BUILD, World, run_over};
+use castor_base::MemoryShelf;
 use castor_cli::Status;
+use castor_image::{Image, open_image};
 use castor_parse::{File, parse};
-use castor_plain::{Given, Plain, Random, plain};
+use castor_plain::{Given, Random, plain, plain_layout};
 use castor_schema::{Checked, check};
-use castor_val::{Cell, Column, Faults, Memory, Row, Table};
+use castor_val::{Cell, Memory, Row, Table};
 use std::alloc::{AllocError, Global};
 use std::test::Fail;
 
@@ -16,12 +19,6 @@ use std::test::Fail;
 const INPUT: &str = "0,1\n2,-1\n";
 
 const LINES: [[i64; 2]; 2] = [[0, 1], [2, -1]];
-
-// A record of two ints.
-fn push_record(alloc: Global, text: &mut String, a: i64, b: i64) -> Result<(), AllocError> {
-    let record = format!(in alloc; "{a},{b}\n")?;
-    text.push_str(record.as_str())
-}
 
 fn table_text(alloc: Global, rows: &[[i64; 2]]) -> Result<String, AllocError> {
     let mut text = String::from_str(alloc, "id,n\n")?;
@@ -68,60 +65,6 @@ fn rows(alloc: Global, random: &mut Random) -> Result<Vec<[i64; 2]>, AllocError>
         rows.push([a, b])?;
     }
     Ok(rows)
-}
-
-fn push_kind(text: &mut String, comma: &mut &str, has: bool, kind: &str) -> Result<(), AllocError> {
-    if has {
-        text.push_str(comma)?;
-        text.push_str(kind)?;
-        *comma = ",";
-    }
-    Ok(())
-}
-
-fn push_faults(text: &mut String, faults: Faults) -> Result<(), AllocError> {
-    let mut comma = "fault ";
-    push_kind(text, &mut comma, faults.division, "division")?;
-    push_kind(text, &mut comma, faults.overflow, "overflow")?;
-    push_kind(text, &mut comma, faults.norows, "norows")?;
-    text.push_str("\n")
-}
-
-fn push_names(text: &mut String, columns: &[Column]) -> Result<(), AllocError> {
-    let mut comma = "";
-    for column in columns {
-        text.push_str(comma)?;
-        text.push_str(column.name.as_str())?;
-        comma = ",";
-    }
-    text.push_str("\n")
-}
-
-// The record of a row of ints, and of no other row.
-fn push_row(alloc: Global, text: &mut String, cells: &[Cell<'_>]) -> Result<(), AllocError> {
-    match cells {
-        [Cell::Int(a), Cell::Int(b)] => push_record(alloc, text, *a, *b),
-        _ => text.push_str("no row of two ints\n"),
-    }
-}
-
-fn push_reply(
-    alloc: Global,
-    text: &mut String,
-    columns: &[Column],
-    plain: &Plain<'_>,
-) -> Result<(), AllocError> {
-    if !plain.faults.is_empty() {
-        return push_faults(text, plain.faults);
-    }
-    let count = plain.rows.len();
-    let head = format!(in alloc; "rows {count}\n")?;
-    text.push_str(head.as_str())?;
-    push_names(text, columns)?;
-    for row in plain.rows.as_slice() {
-        push_row(alloc, text, row.as_slice())?;
-    }
-    Ok(())
 }
 
 // The reply that is due to a line.
@@ -186,24 +129,72 @@ fn is_due(output: &[u8], due: Option<String>) -> Outcome {
     }
 }
 
+// Adds what the plain reader finds in an image for a line.
+fn push_read(
+    alloc: Global,
+    text: &mut String,
+    image: &Image<'_>,
+    line: [i64; 2],
+) -> Result<(), Memory> {
+    let [a, b] = line;
+    let params = [Cell::Int(a), Cell::Int(b)];
+    let given = Given {
+        alloc,
+        tables: &[],
+        scopes: &[],
+        params: &params,
+    };
+    let plain = plain_layout(image.code(), image.decoded(), given)?;
+    push_reply(alloc, text, image.head().columns.as_slice(), &plain)?;
+    Ok(())
+}
+
+fn read_of_image(alloc: Global, image: &Image<'_>) -> Result<String, Memory> {
+    let mut text = String::new(alloc);
+    for line in LINES {
+        push_read(alloc, &mut text, image, line)?;
+    }
+    Ok(text)
+}
+
+// What the plain reader finds in an image, and None where it is none or there is no memory.
+fn read(alloc: Global, bytes: &[u8]) -> Option<String> {
+    match open_image(alloc, bytes) {
+        Ok(image) => read_of_image(alloc, &image).ok(),
+        Err(_) => None,
+    }
+}
+
+// Whether `ask` prints what `answer` did, and the plain reader finds it too.
+fn compared_images(
+    alloc: Global,
+    shelf: &mut MemoryShelf,
+    world: &World<'_>,
+    answered: &[u8],
+) -> Result<Outcome, Fail> {
+    run_over(alloc, &BUILD, shelf, world)?;
+    let asked = run_over(alloc, &ASK, shelf, world)?;
+    if asked.output.as_slice() != answered {
+        return Ok(Outcome::Differs);
+    }
+    match shelf.file("q1.image") {
+        Some(bytes) => Ok(is_due(answered, read(alloc, bytes))),
+        None => Ok(Outcome::Differs),
+    }
+}
+
 fn compared(alloc: Global, query: &str, rows: &[[i64; 2]]) -> Result<Outcome, Fail> {
     let table = table_text(alloc, rows)?;
-    let world = World {
-        query,
-        script: "finish;",
-        table: table.as_str(),
-        input: INPUT,
-        shelf_fails: &[],
-        input_fails: &[],
-        output_fails: &[],
-        error_fails: &[],
-    };
-    let ran = run(alloc, &["answer", "q1.query", "q1.script"], &world)?;
+    let world = World::of(query, table.as_str(), INPUT);
+    let mut shelf = world.shelf(alloc)?;
+    let ran = run_over(alloc, &ANSWER, &mut shelf, &world)?;
     match ran.status {
         Status::Ok => {
             let tables = tables(alloc, rows)?;
-            let due = due(alloc, query, tables.as_slice());
-            Ok(is_due(ran.output.as_slice(), due))
+            match is_due(ran.output.as_slice(), due(alloc, query, tables.as_slice())) {
+                Outcome::Agrees => compared_images(alloc, &mut shelf, &world, &ran.output),
+                other => Ok(other),
+            }
         }
         Status::Build(_) => Ok(Outcome::Refused),
         _ => Ok(Outcome::Differs),

@@ -1,6 +1,6 @@
 //! Statuses other than Ok, and the line of each.
 
-use crate::world::{BY_CUSTOMER, ORDERS, Ran, World, run};
+use crate::world::{ANSWER, BY_CUSTOMER, ORDERS, World, ended, refused, run};
 use castor_cli::{Place, ReadFault, Status};
 use std::alloc::Global;
 use std::process::Abort;
@@ -9,122 +9,97 @@ use std::test::Fail;
 const USAGE: &str =
     "castor: usage: answer QUERY SCRIPT, build QUERY SCRIPT IMAGE, ask IMAGE, show QUERY SCRIPT, code IMAGE, sample N\n";
 
-fn with_words(alloc: Global, words: &[&str]) -> Result<Ran, Fail> {
-    let world = World {
-        query: BY_CUSTOMER,
-        script: "finish;",
-        table: ORDERS,
-        input: "ann\n",
-        shelf_fails: &[],
-        input_fails: &[],
-        output_fails: &[],
-        error_fails: &[],
-    };
-    run(alloc, words, &world)
-}
-
-fn with_files(alloc: Global, query: &str, script: &str, table: &str) -> Result<Ran, Fail> {
-    let world = World {
-        query,
-        script,
-        table,
-        input: "ann\n",
-        shelf_fails: &[],
-        input_fails: &[],
-        output_fails: &[],
-        error_fails: &[],
-    };
-    run(alloc, &["answer", "q1.query", "q1.script"], &world)
-}
-
-// That a run ended with a status and its line, printed nothing and took nothing of its input.
-fn refused(rt: &impl Abort, ran: &Ran, code: u8, line: &str) {
-    assert_eq!(rt; ran.status.code(), code);
-    assert_eq!(rt; ran.errors.as_slice(), line.as_bytes());
-    assert_eq!(rt; ran.output.len(), 0);
-    assert_eq!(rt; ran.input_left, 4);
+// That words over the orders end with a status and its line.
+fn words_end(
+    rt: &impl Abort,
+    alloc: Global,
+    words: &[&str],
+    code: u8,
+    line: &str,
+) -> Result<(), Fail> {
+    let world = World::of(BY_CUSTOMER, ORDERS, "ann\n");
+    ended(rt, &run(alloc, words, &world)?, &world, code, line);
+    Ok(())
 }
 
 #[test]
 fn words_of_no_form_are_usage(rt: HostRuntime) -> Result<(), Fail> {
-    let ran = with_words(rt.alloc(), &["ask"])?;
-    refused(&rt, &ran, 2, USAGE);
-    Ok(())
-}
-
-#[test]
-fn sample_wants_a_plain_number(rt: HostRuntime) -> Result<(), Fail> {
-    let ran = with_words(rt.alloc(), &["sample", "05"])?;
-    refused(&rt, &ran, 2, USAGE);
-    Ok(())
+    words_end(&rt, rt.alloc(), &["ask"], 2, USAGE)?;
+    words_end(
+        &rt,
+        rt.alloc(),
+        &["build", "q1.query", "q1.script"],
+        2,
+        USAGE,
+    )?;
+    words_end(&rt, rt.alloc(), &["sample", "05"], 2, USAGE)
 }
 
 #[test]
 fn other_commands_are_not_built_yet(rt: HostRuntime) -> Result<(), Fail> {
-    let ran = with_words(rt.alloc(), &["sample", "100000"])?;
-    refused(&rt, &ran, 12, "castor: not yet\n");
-    Ok(())
+    words_end(
+        &rt,
+        rt.alloc(),
+        &["sample", "100000"],
+        12,
+        "castor: not yet\n",
+    )
+}
+
+// That the orders of another table's file are refused.
+fn table_ends(
+    rt: &impl Abort,
+    alloc: Global,
+    table: &str,
+    code: u8,
+    line: &str,
+) -> Result<(), Fail> {
+    refused(
+        rt,
+        alloc,
+        &World::of(BY_CUSTOMER, table, "ann\n"),
+        code,
+        line,
+    )
 }
 
 #[test]
 fn a_missing_table_is_read_absent(rt: HostRuntime) -> Result<(), Fail> {
-    let ran = with_files(rt.alloc(), BY_CUSTOMER, "finish;", "")?;
+    let world = World::of(BY_CUSTOMER, "", "ann\n");
+    let ran = run(rt.alloc(), &ANSWER, &world)?;
     assert_eq!(rt;
         ran.status,
         Status::Read(Place::Table(0), ReadFault::Absent)
     );
-    refused(&rt, &ran, 3, "castor: read orders.csv: absent\n");
-    Ok(())
+    table_ends(&rt, rt.alloc(), "", 3, "castor: read orders.csv: absent\n")
 }
 
 #[test]
 fn a_header_in_another_order_is_no_table(rt: HostRuntime) -> Result<(), Fail> {
-    let ran = with_files(
-        rt.alloc(),
-        BY_CUSTOMER,
-        "finish;",
-        "id,total,cust\n1,30,ann\n",
-    )?;
-    refused(&rt, &ran, 7, "castor: table orders: header\n");
-    Ok(())
+    let table = "id,total,cust\n1,30,ann\n";
+    table_ends(&rt, rt.alloc(), table, 7, "castor: table orders: header\n")
 }
 
 #[test]
-fn a_short_record_is_named_by_its_number(rt: HostRuntime) -> Result<(), Fail> {
-    let ran = with_files(
+fn a_record_is_named_by_its_number(rt: HostRuntime) -> Result<(), Fail> {
+    let table = "id,cust,total\n1,ann,30\n2,bob\n";
+    table_ends(
+        &rt,
         rt.alloc(),
-        BY_CUSTOMER,
-        "finish;",
-        "id,cust,total\n1,ann,30\n2,bob\n",
+        table,
+        7,
+        "castor: table orders: record 2\n",
     )?;
-    refused(&rt, &ran, 7, "castor: table orders: record 2\n");
-    Ok(())
-}
-
-#[test]
-fn a_field_of_another_type_is_named_by_its_numbers(rt: HostRuntime) -> Result<(), Fail> {
-    let ran = with_files(
-        rt.alloc(),
-        BY_CUSTOMER,
-        "finish;",
-        "id,cust,total\n1,ann,30\n2,bob,x\n",
-    )?;
-    refused(&rt, &ran, 7, "castor: table orders: record 2 field 2\n");
-    Ok(())
+    let table = "id,cust,total\n1,ann,30\n2,bob,x\n";
+    let line = "castor: table orders: record 2 field 2\n";
+    table_ends(&rt, rt.alloc(), table, 7, line)
 }
 
 #[test]
 fn another_script_is_not_built_yet(rt: HostRuntime) -> Result<(), Fail> {
-    let ran = with_files(rt.alloc(), BY_CUSTOMER, "finish; finish;", ORDERS)?;
-    refused(&rt, &ran, 12, "castor: not yet\n");
-    Ok(())
-}
-
-#[test]
-fn the_script_may_have_comments(rt: HostRuntime) -> Result<(), Fail> {
-    let ran = with_files(rt.alloc(), BY_CUSTOMER, " finish -- now\n;", ORDERS)?;
-    assert_eq!(rt; ran.status, Status::Ok);
-    Ok(())
+    let mut world = World::of(BY_CUSTOMER, ORDERS, "ann\n");
+    world.script = "finish; finish;";
+    refused(&rt, rt.alloc(), &world, 12, "castor: not yet\n")
 }
 
 // Queries over the orders, and the lines of their refusals.
@@ -158,16 +133,13 @@ const REFUSED_QUERIES: [(&str, &str); 9] = [
     ("query filter(", "castor: query: syntax at 58\n"),
 ];
 
-fn with_query(alloc: Global, query: &str) -> Result<Ran, Fail> {
-    let text = format!(in alloc; "table orders (id int, cust text, total int); {query}")?;
-    with_files(alloc, &text, "finish;", ORDERS)
-}
-
 #[test]
 fn a_refused_query_is_told_by_its_cause(rt: HostRuntime) -> Result<(), Fail> {
+    let alloc = rt.alloc();
     for (query, line) in REFUSED_QUERIES {
-        let ran = with_query(rt.alloc(), query)?;
-        refused(&rt, &ran, 5, line);
+        let text = format!(in alloc; "table orders (id int, cust text, total int); {query}")?;
+        let world = World::of(text.as_str(), ORDERS, "ann\n");
+        refused(&rt, alloc, &world, 5, line)?;
     }
     Ok(())
 }

@@ -5,6 +5,7 @@ use castor_cli::{Status, castor_uncounted};
 use std::alloc::Global;
 use std::collections::BTreeMap;
 use std::marker::Brand;
+use std::process::Abort;
 use std::sync::ledger::Blank;
 use std::test::Fail;
 
@@ -12,6 +13,12 @@ pub const ORDERS: &str = "id,cust,total\n1,ann,30\n2,bob,20\n3,ann,5\n";
 
 pub const BY_CUSTOMER: &str =
     "table orders (id int, cust text, total int);\nparam c text;\nquery filter(cust = $c, orders)\n";
+
+pub const ANSWER: [&str; 3] = ["answer", "q1.query", "q1.script"];
+
+pub const BUILD: [&str; 4] = ["build", "q1.query", "q1.script", "q1.image"];
+
+pub const ASK: [&str; 2] = ["ask", "q1.image"];
 
 /// The files and the input of a run, and the numbers of the calls that are to fail.
 #[derive(Clone, Copy)]
@@ -24,6 +31,31 @@ pub struct World<'a> {
     pub input_fails: &'a [u64],
     pub output_fails: &'a [u64],
     pub error_fails: &'a [u64],
+}
+
+impl<'a> World<'a> {
+    /// A query over a table, the script `finish;` and an input, where no call fails.
+    pub fn of(query: &'a str, table: &'a str, input: &'a str) -> World<'a> {
+        World {
+            query,
+            script: "finish;",
+            table,
+            input,
+            shelf_fails: &[],
+            input_fails: &[],
+            output_fails: &[],
+            error_fails: &[],
+        }
+    }
+
+    /// The files q1.query, q1.script and orders.csv, of which an empty one is missing.
+    pub fn shelf(&self, alloc: Global) -> Result<MemoryShelf, Fail> {
+        let mut files = BTreeMap::new(alloc);
+        file(alloc, &mut files, "q1.query", self.query)?;
+        file(alloc, &mut files, "q1.script", self.script)?;
+        file(alloc, &mut files, "orders.csv", self.table)?;
+        Ok(MemoryShelf::new(alloc, files, Vec::from_slice(alloc, self.shelf_fails)?))
+    }
 }
 
 /// What a run left.
@@ -50,17 +82,7 @@ fn file(
     Ok(())
 }
 
-/// Runs the words over the files q1.query, q1.script and orders.csv, of which an empty one is missing.
-pub fn run(alloc: Global, words: &[&str], world: &World<'_>) -> Result<Ran, Fail> {
-    let mut files = BTreeMap::new(alloc);
-    file(alloc, &mut files, "q1.query", world.query)?;
-    file(alloc, &mut files, "q1.script", world.script)?;
-    file(alloc, &mut files, "orders.csv", world.table)?;
-    let mut shelf = MemoryShelf::new(alloc, files, Vec::from_slice(alloc, world.shelf_fails)?);
-    run_over(alloc, words, &mut shelf, world)
-}
-
-/// Runs the words over a shelf, and the input and failures of a world.
+/// Runs the words over a shelf, and the input and the other devices of a world.
 pub fn run_over(
     alloc: Global,
     words: &[&str],
@@ -94,51 +116,79 @@ pub fn run_over(
     })
 }
 
-/// A shelf of a query, the script `finish;` and a table orders.csv, and the numbers of the calls that are to fail.
-pub fn shelf_of(
-    alloc: Global,
-    query: &str,
-    table: &str,
-    fails: &[u64],
-) -> Result<MemoryShelf, Fail> {
-    let mut files = BTreeMap::new(alloc);
-    file(alloc, &mut files, "q1.query", query)?;
-    file(alloc, &mut files, "q1.script", "finish;")?;
-    file(alloc, &mut files, "orders.csv", table)?;
-    Ok(MemoryShelf::new(alloc, files, Vec::from_slice(alloc, fails)?))
+/// Runs the words over the shelf of a world.
+pub fn run(alloc: Global, words: &[&str], world: &World<'_>) -> Result<Ran, Fail> {
+    let mut shelf = world.shelf(alloc)?;
+    run_over(alloc, words, &mut shelf, world)
 }
 
-/// Runs the words over a shelf and an input, where no other device fails.
-pub fn run_with(
-    alloc: Global,
-    words: &[&str],
-    shelf: &mut MemoryShelf,
-    input: &str,
-) -> Result<Ran, Fail> {
-    let world = World {
-        query: "",
-        script: "",
-        table: "",
-        input,
-        shelf_fails: &[],
-        input_fails: &[],
-        output_fails: &[],
-        error_fails: &[],
-    };
-    run_over(alloc, words, shelf, &world)
+/// That a run ended with Ok and printed this of all its input.
+pub fn printed(rt: &impl Abort, ran: &Ran, due: &str) {
+    assert_eq!(rt; ran.errors.as_slice(), b"".as_slice());
+    assert_eq!(rt; ran.status, Status::Ok);
+    assert_eq!(rt; ran.output.as_slice(), due.as_bytes());
+    assert_eq!(rt; ran.input_left, 0);
 }
 
-/// Runs `answer` over a query, the script `finish;`, the orders and an input.
-pub fn answer(alloc: Global, query: &str, input: &str) -> Result<Ran, Fail> {
-    let world = World {
-        query,
-        script: "finish;",
-        table: ORDERS,
-        input,
-        shelf_fails: &[],
-        input_fails: &[],
-        output_fails: &[],
-        error_fails: &[],
-    };
-    run(alloc, &["answer", "q1.query", "q1.script"], &world)
+/// That a run ended with a status and its line, printed nothing and took nothing of its input.
+pub fn ended(rt: &impl Abort, ran: &Ran, world: &World<'_>, code: u8, line: &str) {
+    assert_eq!(rt; ran.errors.as_slice(), line.as_bytes());
+    assert_eq!(rt; ran.status.code(), code);
+    assert_eq!(rt; ran.output.len(), 0);
+    assert_eq!(rt; ran.input_left, world.input.len());
+}
+
+/// That a file of a shelf is just this text.
+pub fn holds(rt: &impl Abort, shelf: &MemoryShelf, name: &str, text: &str) {
+    assert!(rt;
+        shelf
+            .file(name)
+            .is_some_and(|bytes| bytes.as_slice() == text.as_bytes()),
+        "{name}"
+    );
+}
+
+/// That the files of a world are on its shelf as they were, and no image is.
+pub fn is_unchanged(rt: &impl Abort, shelf: &MemoryShelf, world: &World<'_>) {
+    holds(rt, shelf, "q1.query", world.query);
+    holds(rt, shelf, "q1.script", world.script);
+    holds(rt, shelf, "orders.csv", world.table);
+    assert!(rt; shelf.file("q1.image").is_none());
+}
+
+/// Builds the image of a world under its name.
+pub fn build(rt: &impl Abort, alloc: Global, world: &World<'_>) -> Result<MemoryShelf, Fail> {
+    let mut shelf = world.shelf(alloc)?;
+    let built = run_over(alloc, &BUILD, &mut shelf, world)?;
+    ended(rt, &built, world, 0, "");
+    Ok(shelf)
+}
+
+/// That `answer` prints this for the input of a world, and `ask` does so of the image that `build` writes.
+pub fn replies(rt: &impl Abort, alloc: Global, world: &World<'_>, due: &str) -> Result<(), Fail> {
+    printed(rt, &run(alloc, &ANSWER, world)?, due);
+    let mut shelf = build(rt, alloc, world)?;
+    printed(rt, &run_over(alloc, &ASK, &mut shelf, world)?, due);
+    Ok(())
+}
+
+/// That `answer` and `build` end with a status and its line, and nothing is written.
+pub fn refused(
+    rt: &impl Abort,
+    alloc: Global,
+    world: &World<'_>,
+    code: u8,
+    line: &str,
+) -> Result<(), Fail> {
+    ended(rt, &run(alloc, &ANSWER, world)?, world, code, line);
+    let mut shelf = world.shelf(alloc)?;
+    ended(
+        rt,
+        &run_over(alloc, &BUILD, &mut shelf, world)?,
+        world,
+        code,
+        line,
+    );
+    assert!(rt; shelf.file("q1.image").is_none());
+    Ok(())
 }

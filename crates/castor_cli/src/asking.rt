@@ -10,6 +10,7 @@ ghost use Rattle.castor_cli.specs.Preparation.{IsBuilt};
 ghost use Rattle.castor_image.specs.Images.{IsImageOf};
 
 use crate::answers::{PrintError, print_answers};
+use crate::imaging::IMAGE_LIMIT;
 use crate::preparation::{Stop, prepare, read_file};
 use crate::status::{Place, ReadFault, Status};
 use castor_base::{Shelf, Sink, Source, Steps, TakeError, read_all};
@@ -19,9 +20,6 @@ use std::sync::ledger::Ledger;
 
 // The limit on the input, in bytes.
 const INPUT_LIMIT: u64 = 67_108_864;
-
-// The limit on an image, in bytes.
-const IMAGE_LIMIT: u64 = 268_435_456;
 
 // Reads the input to its end, and prints the image's reply to each line.
 fn answer_input<I: Source, O: Sink, L: Ledger>(

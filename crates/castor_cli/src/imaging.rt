@@ -19,8 +19,8 @@ use castor_val::{Column, Memory, Text};
 use sqlite_items::Items;
 use std::alloc::Global;
 
-// The limit on an image, in bytes.
-const IMAGE_LIMIT: u64 = 268_435_456;
+/// The limit on an image, in bytes.
+pub const IMAGE_LIMIT: u64 = 268_435_456;
 
 // The parameters and columns of a checked query.
 fn head_of(alloc: Global, checked: &Checked) -> Result<Head, Memory>

@@ -71,10 +71,13 @@ pub enum BuildFault {
 /// output says which it is.
 #[derive(Clone, Copy, Debug, PartialEq, Eq)]
 pub enum Status {
+    /// All was done.
     Ok,
     /// The words are no form of a command.
     Usage,
+    /// What can't be read, and why.
     Read(Place, ReadFault),
+    /// What can't be written.
     Write(Place),
     /// Why the query file is refused.
     Query(QueryFault),

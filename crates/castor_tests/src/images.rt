@@ -16,6 +16,10 @@ const INDEXED: &str = "table orders (id int, cust text, total int); param c text
 
 const INDEX: [u8; 28] = *b"\x00\x00\x19ann\x01\x05\x00ann\x19\x02ann\x00bob\x00\x00\x01bob\x0f";
 
+// The same with the entries in the first bucket, where neither key belongs.
+const OTHER_OFFSETS: [u8; 28] =
+    *b"\x00\x19\x00ann\x01\x05\x00ann\x19\x02ann\x00bob\x00\x00\x01bob\x0f";
+
 // The rows 7 and 9 of one int column: the mark, the head, the lengths 53 and 2, the code and the data.
 const SEVEN_AND_NINE: [u8; 84] = [
     0x43, 0x41, 0x53, 0x54, 0x49, 0x4d, 0x47, 0x31, 0x00, 0x01, 0x00, 0x01, 0x78, 53, 0, 0, 0, 0,
@@ -77,15 +81,8 @@ fn bytes_that_are_no_image_are_refused(rt: HostRuntime) -> Result<(), Fail> {
     no_image(&rt, rt.alloc(), bytes.as_slice())?;
     bytes.truncate(192);
     no_image(&rt, rt.alloc(), bytes.as_slice())?;
-    bytes.push(0x0f)?;
-    // The offsets of the two buckets are exchanged.
-    for (at, byte) in bytes.iter_mut().enumerate() {
-        if at == 166 {
-            *byte = 0x19;
-        } else if at == 167 {
-            *byte = 0;
-        }
-    }
+    bytes.truncate(165);
+    bytes.extend_from_slice(&OTHER_OFFSETS)?;
     no_image(&rt, rt.alloc(), bytes.as_slice())?;
     no_image(&rt, rt.alloc(), ORDERS.as_bytes())?;
     no_image(&rt, rt.alloc(), b"")

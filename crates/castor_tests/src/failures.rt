@@ -13,7 +13,7 @@ const INPUT: &str = "ann\nbob\n";
 
 const FIRST_REPLY: &str = "rows 2\nid,cust,total\n1,ann,30\n3,ann,5\n";
 
-fn orders() -> World<'static> {
+fn orders<'a>() -> World<'a> {
     World::of(BY_CUSTOMER, ORDERS, INPUT)
 }
 

@@ -21,7 +21,7 @@ const OTHER_OFFSETS: [u8; 28] =
     *b"\x00\x19\x00ann\x01\x05\x00ann\x19\x02ann\x00bob\x00\x00\x01bob\x0f";
 
 // The rows 7 and 9 of one int column: the mark, the head, the lengths 53 and 2, the code and the data.
-const SEVEN_AND_NINE: [u8; 84] = [
+pub const SEVEN_AND_NINE: [u8; 84] = [
     0x43, 0x41, 0x53, 0x54, 0x49, 0x4d, 0x47, 0x31, 0x00, 0x01, 0x00, 0x01, 0x78, 53, 0, 0, 0, 0,
     0, 0, 0, 2, 0, 0, 0, 0, 0, 0, 0, 0x06, 2, 0, 0, 0, 0, 0, 0, 0, 2, 0, 0, 0, 0, 0, 0, 0, 2, 0, 0,
     0, 0, 0, 0, 0, 2, 0, 0, 0, 0, 0, 0, 0, 0x04, 1, 0, 0x01, 7, 0, 0, 0, 0, 0, 0, 0, 9, 0, 0, 0, 0,

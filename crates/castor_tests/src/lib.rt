@@ -6,6 +6,8 @@ mod answers;
 #[cfg(test)]
 mod building;
 #[cfg(test)]
+mod calls;
+#[cfg(test)]
 mod failures;
 #[cfg(test)]
 mod images;

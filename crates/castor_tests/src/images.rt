@@ -44,19 +44,33 @@ fn a_small_table_has_these_bytes(rt: HostRuntime) -> Result<(), Fail> {
     Ok(())
 }
 
-#[test]
-fn the_data_comes_last(rt: HostRuntime) -> Result<(), Fail> {
-    let extremes = "x\n-9223372036854775808\n9223372036854775807\n";
-    let data = b"\x00\x00\x00\x00\x00\x00\x00\x00\xff\xff\xff\xff\xff\xff\xff\xff";
-    let bytes = image(&rt, rt.alloc(), &World::of(BY_NUMBER, extremes, "\n"))?;
+// That the image of a query over a table has so many bytes, and that its data, which comes last, is this.
+fn has_data(
+    rt: &impl Abort,
+    alloc: Global,
+    query: &str,
+    table: &str,
+    len: usize,
+    data: &[u8],
+) -> Result<(), Fail> {
+    let bytes = image(rt, alloc, &World::of(query, table, ""))?;
+    assert_eq!(rt; bytes.len(), len);
     assert!(rt; bytes.ends_with(data));
-    let data = b"\x00ann\x19\x01bob\x0f\x02ann\x00";
-    let bytes = image(&rt, rt.alloc(), &World::of(BY_CUSTOMER, ORDERS, "ann\n"))?;
-    assert!(rt; bytes.ends_with(data));
-    let bytes = image(&rt, rt.alloc(), &World::of(INDEXED, ORDERS, "ann\n"))?;
-    assert_eq!(rt; bytes.len(), 193);
-    assert!(rt; bytes.ends_with(&INDEX));
     Ok(())
+}
+
+#[test]
+fn the_data_has_the_least_widths(rt: HostRuntime) -> Result<(), Fail> {
+    let extremes = "x\n-9223372036854775808\n9223372036854775807\n";
+    let wide = [
+        0, 0, 0, 0, 0, 0, 0, 0, 255, 255, 255, 255, 255, 255, 255, 255,
+    ];
+    has_data(&rt, rt.alloc(), BY_NUMBER, extremes, 98, &wide)?;
+    // Behind the mark, the head of 22 bytes, two lengths and the code of 88 bytes.
+    has_data(&rt, rt.alloc(), BY_CUSTOMER, "id,cust,total\n", 134, b"")?;
+    let rows = b"\x00ann\x19\x01bob\x0f\x02ann\x00";
+    has_data(&rt, rt.alloc(), BY_CUSTOMER, ORDERS, 149, rows)?;
+    has_data(&rt, rt.alloc(), INDEXED, ORDERS, 193, &INDEX)
 }
 
 // That these bytes under an image's name are refused.

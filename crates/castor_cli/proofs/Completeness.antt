@@ -1,5 +1,5 @@
 -- That a run without a cause comes to its end, or meets want of memory.
-use Rattle.std.proofs.Common.{◌≡◌, ◌≤◌, ◌+◌, ◌∙◌, ◌++◌, ℕ, suc, List, length, Option, Some, None, Result, Ok, Err, IfSome, ◌⊎◌, inl, inr, refl, sym, ap, subst, arith}
+use Rattle.std.proofs.Common.{◌≡◌, ◌+◌, ◌∙◌, ℕ, List, length, Option, Some, None, Result, Ok, Err, inl, inr, sym, ap, subst, arith}
 use Rattle.std.proofs.lemmas.List.{length-append}
 use Rattle.castor_base.specs.Files.{Files, SameFiles, SameOthers}
 use Rattle.castor_base.specs.Moves.{TookTooMany}
@@ -11,10 +11,10 @@ use Rattle.castor_cli.specs.declared.status.Place.TheVariants as place
 use Rattle.castor_cli.specs.declared.status.ReadFault.TheVariants as fault
 use Rattle.castor_cli.specs.declared.status.Status.{Status}
 use Rattle.castor_cli.specs.declared.status.Status.TheVariants as status
-use Rattle.castor_cli.specs.Causes.{Blames, IsDue, RoseWhere}
+use Rattle.castor_cli.specs.Causes.{IsDue}
 use Rattle.castor_cli.specs.Commands.{Names}
 use Rattle.castor_cli.specs.Complete.{Completes, HasNoCause, InputIsWithin, IsOkOrMemory, IsWithinLimit}
-use Rattle.castor_cli.specs.Outcome.{Caused, Devices, Ended, Filed, IsImageFor, IsReady, Rises, Taken, Written, file_named, input_limit}
+use Rattle.castor_cli.specs.Outcome.{Caused, Devices, Ended, Filed, IsImageFor, Rises, Taken, Written, file_named, input_limit}
 use Rattle.castor_cli.specs.Preparation.{Broken}
 
 -- an input within the limit doesn't give one byte more than the limit

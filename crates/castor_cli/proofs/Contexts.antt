@@ -1,22 +1,16 @@
 -- Codes read no tables, so they have the same column types where there are none.
-use Rattle.std.proofs.Common.{◌≡◌, ◌∙◌, ℕ, ℤ, List, [], ◌∷◌, ◌&&◌, map, Bool, true, false, Option, Some, None, option_and_then, if◌then◌else◌, refl, sym, ap, subst}
-use Rattle.castor_val.specs.declared.column.Column.{Column}
+use Rattle.std.proofs.Common.{◌≡◌, ◌∙◌, List, [], ◌∷◌, ◌&&◌, map, Bool, true, false, Some, None, option_and_then, if◌then◌else◌, refl, sym, ap}
 use Rattle.castor_val.specs.declared.value.Ty.{Ty}
 use Rattle.castor_val.specs.declared.value.Ty.TheVariants.{Int, Bool as Truth, Text}
-use Rattle.castor_val.specs.declared.value.Value.{Value}
 use Rattle.castor_alg.specs.declared.context.Context.{Context}
 use Rattle.castor_alg.specs.declared.expr.Expr.{Expr}
 use Rattle.castor_alg.specs.declared.expr.Expr as E
-use Rattle.castor_alg.specs.declared.expr.Op.{Op}
-use Rattle.castor_alg.specs.declared.rel.Agg.{Agg}
 use Rattle.castor_alg.specs.declared.rel.Bound.{Bound}
 use Rattle.castor_alg.specs.declared.rel.Bound.TheVariants.{Any, Incl, Excl}
-use Rattle.castor_alg.specs.declared.rel.Key.{Key}
-use Rattle.castor_alg.specs.Typing.{ExprTyping, RelTyping, allowed, are_hash_keys, are_sorting_keys, choice_type, common_types, cross_types, each, expr_type_step, extended, group_types, is_bound, is_context, is_of, is_range, negation_type, operator_type, same_type, same_types, type_under, types_of_each, within_limits}
+use Rattle.castor_alg.specs.Typing.{ExprTyping, RelTyping, allowed, are_hash_keys, are_sorting_keys, choice_type, common_types, cross_types, each, expr_type_step, extended, group_types, is_bound, is_context, is_of, is_range, negation_type, operator_type, same_types, type_under, types_of_each, within_limits}
 use Rattle.castor_alg.proofs.ExprInduction.{expr_induction, fold-Bin, fold-Col, fold-If, fold-Lit, fold-Not, fold-Param, fold-Scope}
 use Rattle.castor_code.specs.declared.code.Code.{Code, fold-Code}
 use Rattle.castor_code.specs.declared.code.Code as C
-use Rattle.castor_code.specs.declared.code.Range.{Range}
 use Rattle.castor_code.specs.CodeTyping.{code_types, code_types_step}
 use Rattle.castor_code.proofs.CodeInduction.{With, code_induction, codes, fold-Bool, fold-Concat, fold-Cross, fold-Dedup, fold-Dep, fold-Filter, fold-Group, fold-Hash, fold-Int, fold-List, fold-Ord, fold-Order, fold-Select, fold-Text}
 use Rattle.castor_image.specs.Images.{fits_head}

@@ -1,9 +1,9 @@
 -- How a run ends: at a refusal, or with an image that is asked or stored.
-use Rattle.std.proofs.Common.{◌≡◌, ◌≢◌, ◌∙◌, ◌++◌, ℕ, List, [], Option, Some, None, Result, Ok, Err, IfSome, ◌⊎◌, inr, inl, refl, sym, ap, subst, option_map}
+use Rattle.std.proofs.Common.{◌≡◌, ◌∙◌, ◌++◌, ℕ, List, [], Option, Some, None, Result, Ok, Err, IfSome, ◌⊎◌, inr, inl, refl, sym, ap, subst, option_map}
 use Rattle.std.proofs.lemmas.List.{append-nil}
 use Rattle.std.specs.Io.KnownBytes.{Appends, Consumes, IsAtEnd, Keeps}
 use Rattle.castor_base.specs.Moves.{AppendsPrefix}
-use Rattle.castor_base.specs.Files.{Files, HasFile, IsTorn, SameFiles, SameOthers}
+use Rattle.castor_base.specs.Files.{Files, IsTorn, SameFiles, SameOthers}
 use Rattle.castor_image.specs.Images.{Content, IsImageOf, IsNoImage}
 use Rattle.castor_image.proofs.ImageLaws.{images_are_told}
 use Rattle.castor_cli.specs.declared.status.Place.TheVariants as place
@@ -12,7 +12,7 @@ use Rattle.castor_cli.specs.declared.status.Status.{Status}
 use Rattle.castor_cli.specs.declared.status.Status.TheVariants as status
 use Rattle.castor_cli.specs.Causes.{IsDue, IsImageBuilt, IsRefusal, NamesDeclared, PreparationRefused, RoseWhere, file_of_status}
 use Rattle.castor_cli.specs.Commands.{Names}
-use Rattle.castor_cli.specs.Outcome.{Answers, Caused, Devices, Ended, EndsOpened, EndsReady, EndsStored, IsImageFor, IsNotTooLong, IsNotUsage, IsReady, PrintedBy, PrintedReplies, Rises, Stores, TakenAll, TakenNone, Written, asking, file_named, storing}
+use Rattle.castor_cli.specs.Outcome.{Answers, Caused, Devices, Ended, EndsOpened, EndsReady, EndsStored, IsImageFor, IsNotTooLong, IsNotUsage, IsReady, PrintedBy, PrintedReplies, Rises, Stores, TakenAll, Written, asking, file_named, storing}
 use Rattle.castor_cli.specs.Preparation.{Broken, IsBuilt}
 use Rattle.castor_cli.specs.Answers.{answers}
 use Rattle.castor_cli.proofs.Tables.{if_told}

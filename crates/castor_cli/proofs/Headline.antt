@@ -1,14 +1,13 @@
 -- That an image that is built means its query.
-use Rattle.std.proofs.Common.{◌≡◌, ◌∙◌, ℕ, ◌+◌, List, [], ◌∷◌, map, Bool, true, false, ◌&&◌, if◌then◌else◌, Option, Some, None, IsSome, Result, Ok, Err, refl, sym, ap, subst}
+use Rattle.std.proofs.Common.{◌≡◌, ◌∙◌, ℕ, ◌+◌, List, [], ◌∷◌, map, Bool, true, false, ◌&&◌, if◌then◌else◌, Option, Some, None, IsSome, Result, Ok, Err, refl, ap, subst}
 use Rattle.std.specs.Prelude.{nat_lt}
 use Rattle.castor_base.specs.Files.{Files}
-use Rattle.castor_val.specs.declared.fault.Faults.{Faults}
 use Rattle.castor_val.specs.declared.row.Row.{Row}
 use Rattle.castor_val.specs.declared.table.Table.{Table}
 use Rattle.castor_val.specs.Values.{row_fits, table_fits}
 use Rattle.castor_alg.specs.declared.held.Held.{Held}
 use Rattle.castor_alg.specs.declared.rel.Rel.{Rel}
-use Rattle.castor_alg.specs.Fits.{Fits, tables_fit}
+use Rattle.castor_alg.specs.Fits.{tables_fit}
 use Rattle.castor_alg.specs.Meaning.{meaning}
 use Rattle.castor_alg.specs.Scopes.{unbound}
 use Rattle.castor_alg.specs.Typing.{Typed, column_types}
@@ -24,17 +23,14 @@ use Rattle.castor_schema.specs.WellTyped.{column_types_of, context_of}
 use Rattle.castor_script.specs.declared.step_error.StepError.{StepError}
 use Rattle.castor_script.specs.Finish.{finish_of}
 use Rattle.castor_script.proofs.FinishLaws.{finish_means}
-use Rattle.castor_stage.specs.HeldData.{held_data}
-use Rattle.castor_stage.specs.Stages.{Staged, stage}
 use Rattle.castor_cli.specs.declared.status.BuildFault.TheVariants as build
-use Rattle.castor_cli.specs.declared.status.Status.{Status}
 use Rattle.castor_cli.specs.declared.status.Status.TheVariants as status
 use Rattle.castor_cli.specs.After.{after}
-use Rattle.castor_cli.specs.Building.{built, built_last, content_of, held_last, if_finished, if_held, if_ordered, if_small, if_staged, image_limit, image_size, keeps_order}
-use Rattle.castor_cli.specs.Headline.{ImagesMeanTheirQueries, IsImageBuilt, MeansTheQuery}
+use Rattle.castor_cli.specs.Building.{built_last, content_of, held_last, if_finished, if_small, image_limit, image_size}
+use Rattle.castor_cli.specs.Headline.{ImagesMeanTheirQueries}
 use Rattle.castor_cli.specs.Preparation.{if_loaded, later_fails, first_fails, script_in, table_in, tables_behind, tables_in}
 use Rattle.castor_cli.specs.Sound.{TablesFit}
-use Rattle.castor_cli.proofs.HeldLaws.{IsHeld, Through, held_in, through}
+use Rattle.castor_cli.proofs.HeldLaws.{IsHeld, held_in, through}
 
 -- ---- the tables
 

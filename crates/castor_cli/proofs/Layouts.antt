@@ -1,6 +1,6 @@
 -- That a head, a layout and what is held make the image that is due.
 use Rattle.std.proofs.Common.{◌≡◌, ◌≤◌, ◌+◌, ◌∙◌, ◌++◌, ℕ, List, length, Bool, true, false, if◌then◌else◌, Option, Some, None, Result, Ok, Err, refl, sym, ap, subst, arith}
-use Rattle.std.specs.Prelude.{nat_le, nat_lt}
+use Rattle.std.specs.Prelude.{nat_lt}
 use Rattle.std.proofs.lemmas.Bool.{and_parts, le-leb, leb-true, ltb-false}
 use Rattle.std.proofs.lemmas.List.{length-append}
 use Rattle.castor_val.specs.declared.value.Ty.{Ty}
@@ -13,7 +13,7 @@ use Rattle.castor_code.specs.CodeForms.{code_bytes}
 use Rattle.castor_code.specs.Data.{data_of}
 use Rattle.castor_image.specs.declared.head.Head.{Head}
 use Rattle.castor_image.specs.Heads.{head_bytes, is_head}
-use Rattle.castor_image.specs.Images.{Content, HasLengths, IsImageOf, fits_head, framed, image_of, is_length, length_field, magic}
+use Rattle.castor_image.specs.Images.{Content, HasLengths, fits_head, framed, image_of, is_length, length_field, magic}
 use Rattle.castor_ltype.specs.declared.generation.Layout.{Layout}
 use Rattle.castor_schema.specs.declared.checked.Checked.{Checked}
 use Rattle.castor_schema.specs.WellTyped.{IsWellTyped, column_types_of, context_of}

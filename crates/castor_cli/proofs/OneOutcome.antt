@@ -1,5 +1,5 @@
 -- That a text says one thing, and that an image is built or opened, or is refused.
-use Rattle.std.proofs.Common.{◌≡◌, ◌≤◌, ◌<◌, ◌∙◌, ℕ, List, length, map, Bool, true, false, Option, Some, None, Result, Ok, Err, ◌⊎◌, inl, inr, refl, sym, ap, subst, arith}
+use Rattle.std.proofs.Common.{◌≡◌, ◌∙◌, ℕ, List, map, Bool, true, false, Option, Some, None, Result, Ok, Err, inl, inr, refl, sym, ap, subst, arith}
 use Rattle.castor_base.specs.Files.{Files}
 use Rattle.castor_parse.specs.declared.query.ParseError.{ParseError}
 use Rattle.castor_parse.specs.declared.query.ParseError.TheVariants as parse
@@ -8,7 +8,7 @@ use Rattle.castor_parse.specs.declared.tree.File.{File}
 use Rattle.castor_parse.specs.Grammar.{IsFile}
 use Rattle.castor_parse.specs.Lexemes.{lexemes}
 use Rattle.castor_parse.specs.Limits.{are_within_limits}
-use Rattle.castor_parse.specs.Parsed.{AreTokens, HasSyntaxFault, IsParsed, IsSmall, IsTooLarge, by_bytes, by_cut, by_grammar, by_tokens, by_tree}
+use Rattle.castor_parse.specs.Parsed.{HasSyntaxFault, IsParsed, IsTooLarge, by_bytes, by_cut, by_grammar, by_tokens, by_tree}
 use Rattle.castor_parse.specs.Tokens.{tokens_of}
 use Rattle.castor_parse.proofs.FileLaws.{one_tree}
 use Rattle.castor_schema.specs.declared.checked.Checked.{Checked}
@@ -24,7 +24,7 @@ use Rattle.castor_cli.specs.declared.status.Status.TheVariants as status
 use Rattle.castor_cli.specs.Commands.{command_of, word}
 use Rattle.castor_cli.specs.Opening.{IsImageIn, IsOpened}
 use Rattle.castor_cli.specs.Outcome.{IsStarted, IsStartedBy}
-use Rattle.castor_cli.specs.Preparation.{IsBuilt, IsQueryIn, Says, query_fails, with_query}
+use Rattle.castor_cli.specs.Preparation.{IsBuilt, Says, with_query}
 use Rattle.castor_cli.specs.Query.{ChecksTo, IsQuery, IsUnchecked, IsUnparsed}
 
 same_tokens : (text : List ℕ) (ts us : List Token) → tokens_of text ≡ Some ts → tokens_of text ≡ Some us → ts ≡ us

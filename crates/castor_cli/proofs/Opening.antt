@@ -1,11 +1,10 @@
 -- What reading the file of an image and opening it gives.
-use Rattle.std.proofs.Common.{◌≡◌, ◌⊎◌, ℕ, List, Bool, true, false, Option, Some, None, Result, Ok, Err, IfSome, inl, inr, refl, sym, subst}
-use Rattle.castor_base.specs.Files.{Files, SameFiles}
+use Rattle.std.proofs.Common.{◌≡◌, ℕ, List, true, false, Option, Some, None, Result, Ok, Err, IfSome, inl, inr, refl, sym, subst}
+use Rattle.castor_base.specs.Files.{Files}
 use Rattle.castor_base.specs.declared.failed.ShelfError.{ShelfError}
 use Rattle.castor_base.specs.declared.failed.ShelfError.TheVariants as shelf
-use Rattle.castor_image.specs.Images.{Content, IsImageOf, IsNoImage}
+use Rattle.castor_image.specs.Images.{Content, IsImageOf}
 use Rattle.castor_cli.specs.declared.status.Place.TheVariants as place
-use Rattle.castor_cli.specs.declared.status.ReadFault.TheVariants as fault
 use Rattle.castor_cli.specs.declared.status.Status.{Status}
 use Rattle.castor_cli.specs.declared.status.Status.TheVariants as status
 use Rattle.castor_cli.specs.Building.{image_limit}

@@ -21,8 +21,8 @@ use Rattle.castor_cli.specs.declared.status.Status.TheVariants as status
 use Rattle.castor_cli.specs.Causes.{IsDue, IsDueAmong, IsDueLater, IsImageBuilt, IsOfPart, IsRefusal, NamesDeclared, NamesOneOf, NamesTable, PartRefused, PreparationRefused, PreparesRest, RestRefused, RoseWhere, SpeaksOf, TablesRefused, file_of_status, nth_name}
 use Rattle.castor_cli.specs.After.{after}
 use Rattle.castor_cli.specs.declared.status.BuildFault.TheVariants as build
-use Rattle.castor_cli.specs.Building.{BuildsImage, built, built_last, held_last, if_finished, if_held, if_ordered, if_small, if_staged, keeps_order}
-use Rattle.castor_cli.specs.Preparation.{Broken, IsBuilt, IsQueryIn, script_in, tables_behind, tables_in, with_query}
+use Rattle.castor_cli.specs.Building.{BuildsImage, built, built_last, held_last, if_finished, if_held, if_ordered, if_staged, keeps_order}
+use Rattle.castor_cli.specs.Preparation.{IsBuilt, IsQueryIn, script_in, tables_behind, tables_in, with_query}
 use Rattle.castor_cli.specs.Sound.{IsSound}
 use Rattle.castor_cli.specs.Status.{table_file}
 use Rattle.castor_cli.proofs.Tables.{both_told, if_told, if_told_later, rose_where_up}

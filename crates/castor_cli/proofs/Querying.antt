@@ -1,5 +1,5 @@
 -- What reading the query's file and checking its text give.
-use Rattle.std.proofs.Common.{◌≡◌, ◌⊎◌, ℕ, List, Bool, true, false, Option, Some, None, Result, Ok, Err, IfSome, refl, inl, inr}
+use Rattle.std.proofs.Common.{◌≡◌, ◌⊎◌, ℕ, List, Bool, true, false, Option, Result, Ok, Err, IfSome, refl, inl, inr}
 use Rattle.castor_base.specs.Files.{Files}
 use Rattle.castor_parse.specs.declared.query.ParseError.{ParseError}
 use Rattle.castor_parse.specs.declared.query.ParseError.TheVariants as parse
@@ -15,7 +15,7 @@ use Rattle.castor_cli.specs.declared.status.ReadFault.TheVariants as reading
 use Rattle.castor_cli.specs.declared.status.Status.{Status}
 use Rattle.castor_cli.specs.declared.status.Status.TheVariants as status
 use Rattle.castor_cli.specs.Causes.{IsOfPart, PartRefused, ReadsQuery, RoseWhere, Stands}
-use Rattle.castor_cli.specs.Preparation.{IsQueryIn, readable, text_limit}
+use Rattle.castor_cli.specs.Preparation.{IsQueryIn, text_limit}
 use Rattle.castor_cli.specs.Query.{IsQuery, ReadsText, ReadsTree, Unparsed, is_unchecked, is_unparsed}
 use Rattle.castor_cli.proofs.Reading.{readable_well}
 use Rattle.castor_cli.proofs.Tables.{if_told}

@@ -1,13 +1,12 @@
 -- What a read of a shelf says of the files that were told when the run began.
-use Rattle.std.proofs.Common.{◌≡◌, ◌⊎◌, ℕ, ◌<◌, ◌≤◌, List, length, Bool, true, false, Option, Some, None, Result, Ok, Err, IfSome, refl, sym, ◌∙◌, inl, inr, arith}
-use Rattle.std.specs.Prelude.{nat_lt, if◌then◌else◌, IsSomeAnd}
+use Rattle.std.proofs.Common.{◌≡◌, ℕ, ◌<◌, ◌≤◌, List, length, true, false, Option, Some, None, Ok, Err, IfSome, refl, sym, ◌∙◌, inl, inr, arith}
+use Rattle.std.specs.Prelude.{nat_lt, IsSomeAnd}
 use Rattle.std.proofs.lemmas.Bool.{ltb-true, ltb-false, cases_Bool}
 use Rattle.castor_base.specs.Files.{Files, ReadFile, ReadWhy, SameFiles}
 use Rattle.castor_base.specs.declared.failed.ShelfError.{ShelfError}
 use Rattle.castor_base.specs.declared.failed.ShelfError.TheVariants as shelf
 use Rattle.castor_cli.specs.declared.status.Place.{Place}
 use Rattle.castor_cli.specs.declared.status.ReadFault.TheVariants as fault
-use Rattle.castor_cli.specs.declared.status.Status.{Status}
 use Rattle.castor_cli.specs.declared.status.Status.TheVariants as status
 use Rattle.castor_cli.specs.Causes.{Refused, RoseWhere, Stands, Unread, read_status}
 use Rattle.castor_cli.specs.After.{after}

@@ -1,16 +1,15 @@
 -- What the words ask for is the command that ran.
 use Rattle.std.proofs.Common.{◌≡◌, ◌∙◌, ℕ, List, Option, Some, None, Result, Ok, Err, IfSome, ◌⊎◌, ◌↔◌, ap, inl, inr, refl, sym, subst}
-use Rattle.std.specs.Io.KnownBytes.{Keeps}
 use Rattle.castor_base.specs.Causes.{Rose}
 use Rattle.castor_base.specs.Files.{Files, SameFiles}
 use Rattle.castor_image.specs.Images.{Content}
 use Rattle.castor_cli.specs.declared.command.Command.{Command}
-use Rattle.castor_cli.specs.declared.command.Command.TheVariants.{Answer, Build, Ask, Show, Code, Sample}
+use Rattle.castor_cli.specs.declared.command.Command.TheVariants.{Answer, Build, Ask}
 use Rattle.castor_cli.specs.declared.status.Status.{Status}
 use Rattle.castor_cli.specs.declared.status.Status.TheVariants as status
 use Rattle.castor_cli.specs.Commands.{Names, command_of, image_name, names_in, word}
 use Rattle.castor_cli.specs.Outcome.{Devices, Ended, Filed, IsImageFor, IsNotUsage, IsStartedBy, Printed, PrintedReplies, Taken, TakenAll, TakenNone, Written, asking, devices, storing, used_by}
-use Rattle.castor_cli.specs.Preparation.{Broken, IsBuilt}
+use Rattle.castor_cli.specs.Preparation.{Broken}
 use Rattle.castor_cli.proofs.Ends.{keeps_itself}
 
 kept_none : (a : Option (List ℕ)) (s : Status) → (s ≡ status.TooLong → ⊥) → TakenNone a a s

@@ -10,8 +10,7 @@ use Rattle.castor_cli.specs.declared.status.Place.TheVariants as place
 use Rattle.castor_cli.specs.declared.status.ReadFault.TheVariants as fault
 use Rattle.castor_cli.specs.declared.status.Status.{Status}
 use Rattle.castor_cli.specs.declared.status.Status.TheVariants as status
-use Rattle.castor_cli.specs.Causes.{BlamesTable, IsDueAmong, IsOfTable, LoadsAll, NamesOneOf, RoseWhere, TableRefused, TablesRefused}
-use Rattle.castor_cli.specs.After.{after}
+use Rattle.castor_cli.specs.Causes.{IsDueAmong, IsOfTable, LoadsAll, NamesOneOf, RoseWhere, TableRefused, TablesRefused}
 use Rattle.castor_cli.specs.Preparation.{table_in, tables_in}
 use Rattle.castor_cli.specs.Status.{table_file}
 

@@ -1,5 +1,5 @@
 -- What is known of the layout of a final query before its image is written.
-use Rattle.std.specs.Prelude.{◌≡◌, ◌⊎◌, ℕ, List, length, true, Ok}
+use Rattle.std.specs.Prelude.{◌≡◌, List, length, true, Ok}
 use Rattle.castor_val.specs.declared.table.Table.{Table}
 use Rattle.castor_alg.specs.declared.context.Context.{Context}
 use Rattle.castor_alg.specs.declared.held.Held.{Held}

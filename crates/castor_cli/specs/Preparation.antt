@@ -1,5 +1,5 @@
 -- The image of a query, a script and tables, check by check, or the status that the first refusal gives.
-use Rattle.std.specs.Prelude.{◌≡◌, ◌⊎◌, ℕ, zero, suc, ◌+◌, ◌&&◌, ◌==◌, List, [], ◌∷◌, Bool, true, false, nat_lt, length, Option, Some, None, Result, Ok, Err, codes, if◌then◌else◌}
+use Rattle.std.specs.Prelude.{◌≡◌, ◌⊎◌, ℕ, zero, suc, ◌+◌, List, [], ◌∷◌, Bool, true, false, nat_lt, length, Option, Some, None, Result, Ok, Err, if◌then◌else◌}
 use Rattle.castor_base.specs.Files.{Files}
 use Rattle.castor_val.specs.declared.table.Table.{Table}
 use Rattle.castor_load.specs.declared.error.LoadError.{LoadError}

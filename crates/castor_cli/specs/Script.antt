@@ -1,5 +1,5 @@
 -- The one script that is built yet.
-use Rattle.std.specs.Prelude.{ℕ, ◌-◌, Bool, true, false, ◌&&◌, List, [], ◌∷◌, take, drop, codes, Option, Some, None}
+use Rattle.std.specs.Prelude.{ℕ, ◌-◌, Bool, false, ◌&&◌, List, [], ◌∷◌, take, drop, codes, Option, Some, None}
 use Rattle.std.specs.Str.{bytes_eq}
 use Rattle.castor_parse.specs.declared.token.Span.{Span}
 use Rattle.castor_parse.specs.declared.token.Token.{Token}

@@ -1,5 +1,5 @@
 -- What is known of each checked query and its tables.
-use Rattle.std.specs.Prelude.{◌≡◌, ◌≤◌, ℕ, List, length, true, All}
+use Rattle.std.specs.Prelude.{◌≡◌, ◌≤◌, List, length, true, All}
 use Rattle.castor_val.specs.declared.table.Table.{Table}
 use Rattle.castor_alg.specs.Fits.{tables_fit}
 use Rattle.castor_schema.specs.declared.checked.Checked.{Checked}

@@ -1,4 +1,4 @@
-use Rattle.castor_cli.proofs.HeldLaws.{built_after, held_for, refused_after}
+use Rattle.castor_cli.proofs.HeldLaws.{built_after, refused_after}
 use Rattle.castor_cli.proofs.building.build_last.Goals as goal
 
 pub returns-in-Ok : goal.returns-in-Ok

@@ -1,4 +1,3 @@
-use Rattle.std.proofs.Common.{ℕ}
 use Rattle.castor_cli.proofs.Tables.{loads_rest, refused_at_first, rose_in_all}
 use Rattle.castor_cli.proofs.preparation.+load_tables.Goals as goal
 

@@ -1,8 +1,8 @@
-use Rattle.std.proofs.Common.{◌≡◌, ◌∙◌, List, ℕ, Some, None, ap, inl, inr, map, refl, string_bytes, subst, sym}
+use Rattle.std.proofs.Common.{◌∙◌, Some, ap, map, string_bytes, subst, sym}
 use Rattle.castor_cli.specs.declared.command.Command.TheVariants.{Answer, Ask, Build}
 use Rattle.castor_cli.specs.Commands.{names_in, word}
 use Rattle.castor_cli.specs.Outcome.{IsNotTooLong}
-use Rattle.castor_cli.proofs.Started.{ended_answer, ended_ask, ended_at_words, ended_build_named, filed_answer, filed_ask, filed_at_words, filed_build, image_of_build, is_no_usage, names_ask, printed_answer, printed_ask, printed_at_words, printed_build, taken_answer, taken_ask, taken_at_words, taken_build}
+use Rattle.castor_cli.proofs.Started.{ended_answer, ended_ask, ended_build_named, filed_answer, filed_ask, filed_build, image_of_build, is_no_usage, names_ask, printed_answer, printed_ask, printed_build, taken_answer, taken_ask, taken_build}
 use Rattle.castor_cli.proofs.top.run.Goals as goal
 
 pub returns-in-Some-Answer-clause-printed : goal.returns-in-Some-Answer-clause-printed

@@ -8,3 +8,4 @@ pub mod LayoutLaws
 pub mod LookUpLaws
 pub mod PartLaws
 pub mod RowLaws
+pub mod ValueLaws

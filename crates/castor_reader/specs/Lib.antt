@@ -5,3 +5,4 @@ pub mod Grouping
 pub mod Limits
 pub mod Replies
 pub mod Shapes
+pub mod StoredRows

@@ -1,9 +1,10 @@
 //! Rows of cells, with the faults that were met.
 
 ghost use Rattle.std.specs.Prelude.{◌≡◌, ◌++◌, ◌∷◌, [], OnOk, IfOk};
-ghost use Rattle.castor_val.specs.Values.{no_faults, union, value_of};
+ghost use Rattle.castor_val.specs.Values.{union, value_of};
 ghost use Rattle.castor_code.specs.LayoutMeaning.{nothing, only_faults};
-ghost use Rattle.castor_reader.specs.Answers.{out_of};
+ghost use Rattle.castor_reader.specs.Answers.{out_of, values_in};
+ghost use Rattle.castor_reader.specs.StoredRows.{one_row};
 
 use castor_val::{Cell, Faults, Memory};
 use std::alloc::Global;
@@ -38,11 +39,18 @@ impl<'b> Answer<'b> {
 
     /// One row of one cell.
     pub fn single(alloc: Global, cell: Cell<'b>) -> Result<Answer<'b>, Memory>
-        ensures { IfOk result (λ a. out_of a ≡ record { rows = (value_of cell.entry ∷ []) ∷ []; faults = no_faults }) }
+        ensures { IfOk result (λ a. out_of a ≡ one_row (value_of cell.entry ∷ [])) }
     {
-        let mut row = Vec::new(alloc);
+        let mut row = Vec::with_capacity(alloc, 1)?;
         row.push(cell)?;
-        let mut rows = Vec::new(alloc);
+        Ok(Answer::one(alloc, row)?)
+    }
+
+    /// One row.
+    pub fn one(alloc: Global, row: Vec<Cell<'b>>) -> Result<Answer<'b>, Memory>
+        ensures { IfOk result (λ a. out_of a ≡ one_row (values_in row.entry)) }
+    {
+        let mut rows = Vec::with_capacity(alloc, 1)?;
         rows.push(row)?;
         Ok(Answer {
             rows,

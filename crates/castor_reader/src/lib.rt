@@ -22,6 +22,7 @@ mod project;
 mod reading;
 mod reply;
 mod shapes;
+mod values;
 
 pub use asking::ask;
 pub use layout::answer_layout;

@@ -1,0 +1,6 @@
+use Rattle.castor_reader.specs.Answers.{values_in}
+use Rattle.castor_reader.proofs.ValueLaws.{AreSoFar}
+use Rattle.castor_reader.proofs.values.stored_values.Given as goal
+
+abbrev pub invariant-loop-at : goal.invariant-loop-at
+invariant-loop-at l = AreSoFar l.kids l.parts l.at (values_in l.row)

@@ -1,0 +1,43 @@
+//! Parts that are one stored value each, whose only combination is the row of these.
+
+ghost use Rattle.std.specs.Prelude.{◌≡◌, IfOk, IfSome, length};
+ghost use Rattle.castor_reader.specs.Answers.{values_in};
+ghost use Rattle.castor_reader.specs.StoredRows.{AreStoredValues, IsStoredValue};
+
+use crate::shapes::leaf;
+use castor_alg::Held;
+use castor_code::Code;
+use castor_val::{Cell, Memory, Value};
+use std::alloc::Global;
+
+// The value that a part is, if its code is a scalar's.
+fn stored_value<'b>(kid: &Code, part: &'b Held) -> Option<&'b Value>
+    ensures { IfSome result (λ v. IsStoredValue kid.now part.now v.now) }
+{
+    match kid {
+        Code::Int { .. } => leaf(part),
+        Code::Bool => leaf(part),
+        Code::Text { .. } => leaf(part),
+        _ => None,
+    }
+}
+
+/// The cells of the values that the parts are, or None where a part's code is no scalar's. Linear in the parts;
+/// copies no text.
+pub fn stored_values<'b>(
+    alloc: Global,
+    kids: &[Code],
+    parts: &'b [Held],
+) -> Result<Option<Vec<Cell<'b>>>, Memory>
+    requires { length parts.now ≡ length kids.now }
+    ensures { IfOk result (λ found. IfSome found (λ row. AreStoredValues kids.now parts.now (values_in row))) }
+{
+    let mut row = Vec::with_capacity(alloc, kids.len())?;
+    for (at, kid) in kids.iter().enumerate() {
+        match stored_value(kid, &parts[at]) {
+            Some(value) => row.push(value.cell())?,
+            None => return Ok(None),
+        }
+    }
+    Ok(Some(row))
+}

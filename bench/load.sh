@@ -8,8 +8,8 @@ rows=1000000
 . "$(dirname "${BASH_SOURCE[0]}")/common.sh"
 
 orders $rows >orders.csv
-# With no question lines the table is loaded and nothing is asked of it.
-echo 'table orders (id int, cust text, total int); param c text; query filter(cust = $c, orders)' >orders.query
+# The table is loaded, as each that is declared, and nothing of it is stored or asked.
+echo 'table orders (id int, cust text, total int); query scalar(1)' >orders.query
 echo 'finish;' >finish.script
 cat >peer.py <<'END'
 import csv

@@ -1,8 +1,9 @@
 //! Parts that are one stored value each, whose only combination is the row of these.
 
 ghost use Rattle.std.specs.Prelude.{◌≡◌, IfOk, IfSome, length};
+ghost use Rattle.std.specs.Option.{is_some};
 ghost use Rattle.castor_reader.specs.Answers.{values_in};
-ghost use Rattle.castor_reader.specs.StoredRows.{AreStoredValues, IsStoredValue};
+ghost use Rattle.castor_reader.specs.StoredRows.{AreStoredValues, IsStoredValue, are_values, is_value};
 
 use crate::shapes::leaf;
 use castor_alg::Held;
@@ -10,9 +11,10 @@ use castor_code::Code;
 use castor_val::{Cell, Memory, Value};
 use std::alloc::Global;
 
-// The value that a part is, if its code is a scalar's.
+// The value of a part that is a leaf under the code of a scalar.
 fn stored_value<'b>(kid: &Code, part: &'b Held) -> Option<&'b Value>
-    ensures { IfSome result (λ v. IsStoredValue kid.now part.now v.now) }
+    ensures is { is_some result ≡ is_value kid.now part.now }
+    ensures meant { IfSome result (λ v. IsStoredValue kid.now part.now v.now) }
 {
     match kid {
         Code::Int { .. } => leaf(part),
@@ -22,7 +24,7 @@ fn stored_value<'b>(kid: &Code, part: &'b Held) -> Option<&'b Value>
     }
 }
 
-/// The cells of the values that the parts are, or None where a part's code is no scalar's. Linear in the parts;
+/// The cells of parts that are all leaves under the codes of scalars, and None where one isn't. Linear in the parts;
 /// copies no text.
 pub fn stored_values<'b>(
     alloc: Global,
@@ -30,7 +32,8 @@ pub fn stored_values<'b>(
     parts: &'b [Held],
 ) -> Result<Option<Vec<Cell<'b>>>, Memory>
     requires { length parts.now ≡ length kids.now }
-    ensures { IfOk result (λ found. IfSome found (λ row. AreStoredValues kids.now parts.now (values_in row))) }
+    ensures are { IfOk result (λ found. is_some found ≡ are_values kids.now parts.now) }
+    ensures meant { IfOk result (λ found. IfSome found (λ row. AreStoredValues kids.now parts.now (values_in row))) }
 {
     let mut row = Vec::with_capacity(alloc, kids.len())?;
     for (at, kid) in kids.iter().enumerate() {

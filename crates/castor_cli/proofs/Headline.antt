@@ -1,6 +1,7 @@
 -- That an image that is built means its query.
-use Rattle.std.proofs.Common.{◌≡◌, ◌∙◌, ℕ, ◌+◌, List, [], ◌∷◌, map, Bool, true, false, ◌&&◌, if◌then◌else◌, Option, Some, None, IsSome, Result, Ok, Err, refl, ap, subst}
+use Rattle.std.proofs.Common.{◌≡◌, ◌∙◌, ℕ, ◌+◌, List, [], ◌∷◌, map, Bool, true, false, if◌then◌else◌, Option, Some, None, IsSome, Result, Ok, Err, refl, ap, subst}
 use Rattle.std.specs.Prelude.{nat_lt}
+use Rattle.std.proofs.lemmas.Bool.{and_from}
 use Rattle.castor_base.specs.Files.{Files}
 use Rattle.castor_val.specs.declared.row.Row.{Row}
 use Rattle.castor_val.specs.declared.table.Table.{Table}
@@ -43,9 +44,6 @@ table_fits_in fails files i d t is =
     let read = through _ (λ bytes. if_loaded i (table_of d.columns bytes)) t is in
     table_of-fits d.columns _ t (loaded i (table_of d.columns read.first) t read.rest)
 
-both_true : (a b : Bool) → a ≡ true → b ≡ true → (a && b) ≡ true
-both_true a b x y = λ i. x i && y i
-
 tables_fit_in : (failing : Option ℕ) (files : Files) (i : ℕ) (ds : List Declared) (ts : List Table) → tables_in failing files i ds ≡ Ok ts → tables_fit ts (map (λ (d : Declared). column_types_of d.columns) ds) ≡ true
 tables_fit_in failing files i [] ts is = let none : [] ≡ ts = cc is in subst (λ (us : List Table). tables_fit us [] ≡ true) none refl
 tables_fit_in failing files i (d ∷ ds) ts is =
@@ -53,7 +51,7 @@ tables_fit_in failing files i (d ∷ ds) ts is =
     let more = through (tables_in (later_fails failing) files (i + 1) ds) (λ us. Ok (one.first ∷ us)) ts one.rest in
     let all : (one.first ∷ more.first) ≡ ts = cc more.rest in
     subst (λ (us : List Table). tables_fit us (map (λ (e : Declared). column_types_of e.columns) (d ∷ ds)) ≡ true) all
-    (both_true _ _ (table_fits_in (first_fails failing) files i d one.first one.is) (tables_fit_in (later_fails failing) files (i + 1) ds more.first more.is))
+    (and_from _ _ (table_fits_in (first_fails failing) files i d one.first one.is) (tables_fit_in (later_fails failing) files (i + 1) ds more.first more.is))
 
 tables_have_types : (files : Files) (script : List ℕ) (c : Checked) (ts : List Table) → tables_behind None files script c ≡ Ok ts → TablesFit c ts
 tables_have_types files script c ts is =

@@ -2,7 +2,7 @@
 use Rattle.std.proofs.Common.{◌≡◌, ℕ, List, [], ◌∷◌, length, Bool, true, false, ◌&&◌, ◌||◌, ◌==◌, not, nat_le, nat_lt, refl}
 use Rattle.std.specs.List.{list_all, list_any}
 use Rattle.std.specs.Str.{bytes_eq}
-use Rattle.std.proofs.lemmas.Bool.{and_parts, eqb-true, le-leb}
+use Rattle.std.proofs.lemmas.Bool.{and_from, and_parts, eqb-true, le-leb}
 use Rattle.castor_val.specs.declared.column.Column.{Column}
 use Rattle.castor_code.specs.Pieces.{one_after_other}
 use Rattle.castor_image.specs.Heads.{are_head_columns, are_params, column_piece, is_between, is_head, is_letter, is_name, is_word_byte, names}
@@ -11,9 +11,6 @@ use Rattle.castor_schema.specs.declared.checked.Checked.{Checked}
 use Rattle.castor_schema.specs.WellTyped.{AreNamed, AreWithinLimits, are_names, begins_name, continues_name, has_name_form}
 use Rattle.castor_schema.specs.WellTyped as schema
 use Rattle.castor_cli.specs.Building.{head_of}
-
-both_true : (a b : Bool) → a ≡ true → b ≡ true → (a && b) ≡ true
-both_true a b x y = λ i. x i && y i
 
 -- ---- names
 
@@ -44,7 +41,7 @@ bytes_continue : (bs : List ℕ) → list_all continues_name bs ≡ true → lis
 bytes_continue [] are = refl
 bytes_continue (b ∷ bs) are =
     let tests = and_parts (continues_name b) (list_all continues_name bs) are in
-    both_true _ _ (byte_continues b tests.0) (bytes_continue bs tests.1)
+    and_from _ _ (byte_continues b tests.0) (bytes_continue bs tests.1)
 
 name_formed : (name : List ℕ) → has_name_form name ≡ true → is_name name ≡ true
 name_formed [] is = absurd (cc is)
@@ -53,13 +50,13 @@ name_formed (b ∷ bs) is =
     let rest = and_parts (list_all continues_name (b ∷ bs)) _ tests.1 in
     let bytes = and_parts (continues_name b) (list_all continues_name bs) rest.0 in
     let sizes = and_parts (nat_lt 0 (length (b ∷ bs))) (nat_le (length (b ∷ bs)) 64) rest.1 in
-    both_true _ _ (both_true _ _ (letter_begins b tests.0) (bytes_continue bs bytes.1)) sizes.1
+    and_from _ _ (and_from _ _ (letter_begins b tests.0) (bytes_continue bs bytes.1)) sizes.1
 
 columns_formed : (cs : List Column) → are_names cs ≡ true → (one_after_other column_piece cs).fits ≡ true
 columns_formed [] are = refl
 columns_formed (c ∷ cs) are =
     let tests = and_parts (has_name_form c.name) (are_names cs) are in
-    both_true _ _ (name_formed c.name tests.0) (columns_formed cs tests.1)
+    and_from _ _ (name_formed c.name tests.0) (columns_formed cs tests.1)
 
 -- ---- distinct names
 
@@ -76,11 +73,11 @@ distinct_names : (ns : List (List ℕ)) → schema.are_distinct ns ≡ true → 
 distinct_names [] are = refl
 distinct_names (n ∷ ns) are =
     let tests = and_parts (not (list_any (bytes_eq n) ns)) (schema.are_distinct ns) are in
-    both_true _ _ (none_is n ns tests.0) (distinct_names ns tests.1)
+    and_from _ _ (none_is n ns tests.0) (distinct_names ns tests.1)
 
 -- the parameters and columns of a checked query make a valid head
 pub head_valid : (c : Checked) → AreWithinLimits c → AreNamed c → is_head (head_of c) ≡ true
 head_valid c limits named =
-    both_true _ _
-    (both_true _ _ (both_true _ _ (le-leb _ _ limits.few_params) (distinct_names (names c.params) limits.param_names)) (columns_formed c.params named.params))
-    (both_true _ _ limits.columns (columns_formed c.columns named.columns))
+    and_from _ _
+    (and_from _ _ (and_from _ _ (le-leb _ _ limits.few_params) (distinct_names (names c.params) limits.param_names)) (columns_formed c.params named.params))
+    (and_from _ _ limits.columns (columns_formed c.columns named.columns))

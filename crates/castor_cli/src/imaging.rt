@@ -15,7 +15,7 @@ use castor_alg::{Held, Rel};
 use castor_image::{Head, build, overhead};
 use castor_ltype::{Layout, lay_out};
 use castor_schema::Checked;
-use castor_val::{Column, Memory, Text};
+use castor_val::{Column, Memory};
 use sqlite_items::Items;
 use std::alloc::Global;
 
@@ -38,11 +38,7 @@ fn copy_columns(alloc: Global, columns: &[Column]) -> Result<Items<Column>, Memo
 {
     let mut copies = Items::new(alloc);
     for column in columns {
-        let name = Text::from_str(alloc, column.name.as_str())?;
-        copies.push(Column {
-            name,
-            ty: column.ty,
-        })?;
+        copies.push(column.copy(alloc)?)?;
     }
     Ok(copies)
 }

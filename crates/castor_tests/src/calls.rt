@@ -3,6 +3,7 @@
 ghost use Rattle.std.specs.Prelude.{◌≡◌, ◌<◌};
 
 use crate::images::SEVEN_AND_NINE;
+use crate::world::owned;
 use castor_base::Steps;
 use castor_cli::{Command, answer_line, command_in, reply_text};
 use castor_image::{Image, open_image};
@@ -75,11 +76,9 @@ fn an_opened_image_has_lines_and_replies(rt: HostRuntime) -> Result<(), Fail> {
 
 #[test]
 fn words_are_a_form_of_a_command(rt: HostRuntime) -> Result<(), Fail> {
-    let alloc = rt.alloc();
-    let mut words = Vec::new(alloc);
-    words.push(String::from_str(alloc, "ask")?)?;
+    let words = owned(rt.alloc(), &["ask"])?;
     assert_eq!(rt; command_in(&words), None);
-    words.push(String::from_str(alloc, "q1.image")?)?;
+    let words = owned(rt.alloc(), &["ask", "q1.image"])?;
     assert_eq!(rt; command_in(&words), Some(Command::Ask));
     Ok(())
 }

@@ -1,6 +1,6 @@
 //! The limits on the input and on an image.
 
-use crate::world::{ANSWER, ASK, BUILD, BY_CUSTOMER, ORDERS, World, build, ended, run_over};
+use crate::world::{ANSWER, ASK, BUILD, BY_CUSTOMER, ORDERS, World, build, ended, owned, run_over};
 use castor_base::{CountSink, MemoryShelf, MemorySink, RepeatSource};
 use castor_cli::{Status, castor_uncounted};
 use std::alloc::Global;
@@ -25,13 +25,10 @@ fn with_letters(
     let mut input = RepeatSource::new(b'a', count);
     let mut out = CountSink::new();
     let mut err = MemorySink::new(Vec::new(alloc), Vec::new(alloc));
-    let mut owned = Vec::new(alloc);
-    for word in words {
-        owned.push(String::from_str(alloc, word)?)?;
-    }
+    let words = owned(alloc, words)?;
     let status = castor_uncounted::<_, _, _, _, Brand>(
         alloc,
-        owned.as_slice(),
+        words.as_slice(),
         shelf,
         &mut input,
         &mut out,

@@ -82,6 +82,15 @@ fn file(
     Ok(())
 }
 
+/// Words that own their text.
+pub fn owned(alloc: Global, words: &[&str]) -> Result<Vec<String>, Fail> {
+    let mut owned = Vec::new(alloc);
+    for word in words {
+        owned.push(String::from_str(alloc, word)?)?;
+    }
+    Ok(owned)
+}
+
 /// Runs the words over a shelf, and the input and the other devices of a world.
 pub fn run_over(
     alloc: Global,
@@ -95,13 +104,10 @@ pub fn run_over(
     );
     let mut out = MemorySink::new(Vec::new(alloc), Vec::from_slice(alloc, world.output_fails)?);
     let mut err = MemorySink::new(Vec::new(alloc), Vec::from_slice(alloc, world.error_fails)?);
-    let mut owned = Vec::new(alloc);
-    for word in words {
-        owned.push(String::from_str(alloc, word)?)?;
-    }
+    let words = owned(alloc, words)?;
     let status = castor_uncounted::<_, _, _, _, Brand>(
         alloc,
-        owned.as_slice(),
+        words.as_slice(),
         shelf,
         &mut input,
         &mut out,

@@ -10,7 +10,7 @@ use Rattle.castor_cli.specs.declared.status.Place.TheVariants as place
 use Rattle.castor_cli.specs.declared.status.ReadFault.TheVariants as fault
 use Rattle.castor_cli.specs.declared.status.Status.{Status}
 use Rattle.castor_cli.specs.declared.status.Status.TheVariants as status
-use Rattle.castor_cli.specs.Causes.{IsDue, IsImageBuilt, IsRefusal, NamesDeclared, PreparationRefused, RoseWhere, file_of_status}
+use Rattle.castor_cli.specs.Causes.{AreBytesBuilt, IsDue, IsRefusal, NamesDeclared, PreparationRefused, RoseWhere, file_of_status}
 use Rattle.castor_cli.specs.Commands.{Names}
 use Rattle.castor_cli.specs.Outcome.{Answers, Caused, Devices, Ended, EndsOpened, EndsReady, EndsStored, IsImageFor, IsNotTooLong, IsNotUsage, IsReady, PrintedBy, PrintedReplies, Rises, Stores, TakenAll, Written, asking, file_named, storing}
 use Rattle.castor_cli.specs.Preparation.{Broken, IsBuilt}
@@ -119,7 +119,7 @@ printed_opened told bytes input old new ready s known h = h
 
 -- a command that asks an image that was built
 pub ended_built : (told told_after : Option Files) (rose : List ℕ → Type 0) (input output : Type 0) (ready : Files → Broken → Result Content Status → Type 0) (names : Names) (bytes : List ℕ) (s : Status) (table : List ℕ)
-    → IsImageBuilt told (λ files r. ready files None r) bytes → EndsOpened bytes input output s → Ended told told_after rose (asking input output) ready names s table
+    → AreBytesBuilt told (λ files r. ready files None r) bytes → EndsOpened bytes input output s → Ended told told_after rose (asking input output) ready names s table
 ended_built told told_after rose input output ready names bytes s table (x, image, is) ends =
     let fine = built_ends x input output bytes s image ends in
     record {
@@ -180,7 +180,7 @@ stored_since earlier later (status.Write place.Image) up ends = up ends
 stored_since earlier later s up ends = absurd ends
 
 pub ended_stored : (told told_after : Option Files) (rose : List ℕ → Type 0) (stored : Type 0) (ready : Files → Broken → Result Content Status → Type 0) (names : Names) (bytes : List ℕ) (s : Status) (table : List ℕ)
-    → IsImageBuilt told (λ files r. ready files None r) bytes → EndsStored stored s → Ended told told_after rose (storing stored) ready names s table
+    → AreBytesBuilt told (λ files r. ready files None r) bytes → EndsStored stored s → Ended told told_after rose (storing stored) ready names s table
 ended_stored told told_after rose stored ready names bytes s table (x, image, is) ends = record {
   caused = if_told told _ _ (λ files r. caused_stored (ready files) stored s ends (x, r)) is;
   tables = if_told told _ _ (λ files r. names_stored files names.query table stored s ends) is;

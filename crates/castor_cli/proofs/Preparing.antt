@@ -18,7 +18,7 @@ use Rattle.castor_cli.specs.declared.status.Place.TheVariants as place
 use Rattle.castor_cli.specs.declared.status.ReadFault.TheVariants as fault
 use Rattle.castor_cli.specs.declared.status.Status.{Status}
 use Rattle.castor_cli.specs.declared.status.Status.TheVariants as status
-use Rattle.castor_cli.specs.Causes.{IsDue, IsDueAmong, IsDueLater, IsImageBuilt, IsOfPart, IsRefusal, NamesDeclared, NamesOneOf, NamesTable, PartRefused, PreparationRefused, PreparesRest, RestRefused, RoseWhere, SpeaksOf, TablesRefused, file_of_status, nth_name}
+use Rattle.castor_cli.specs.Causes.{AreBytesBuilt, IsDue, IsDueAmong, IsDueLater, IsOfPart, IsRefusal, NamesDeclared, NamesOneOf, NamesTable, PartRefused, PreparationRefused, PreparesRest, RestRefused, RoseWhere, SpeaksOf, TablesRefused, file_of_status, nth_name}
 use Rattle.castor_cli.specs.After.{after}
 use Rattle.castor_cli.specs.declared.status.BuildFault.TheVariants as build
 use Rattle.castor_cli.specs.Building.{BuildsImage, built, built_last, held_last, if_finished, if_held, if_ordered, if_staged, keeps_order}
@@ -259,8 +259,8 @@ refused_later told later told_after rose rises query script table c s well same 
 
 -- an image was built
 pub prepared_well : (told later : Option Files) (query script bytes : List ℕ) (c : Checked)
-    → IsSound c → IfSome told (λ (files : Files). IsQueryIn false files query (Ok c)) → SameFiles told later → IsImageBuilt later (λ files r. with_query None files script c ≡ r) bytes
-    → IsImageBuilt told (λ files r. IsBuilt None files query script r) bytes
+    → IsSound c → IfSome told (λ (files : Files). IsQueryIn false files query (Ok c)) → SameFiles told later → AreBytesBuilt later (λ files r. with_query None files script c ≡ r) bytes
+    → AreBytesBuilt told (λ files r. IsBuilt None files query script r) bytes
 prepared_well told later query script bytes c sound well same (x, image, rest) = (x, image, both_told told _ _ _ (λ files w h. (c, w, sound, h)) well (if_told_later told later _ same rest))
 
 -- ---- the name of a table by its number

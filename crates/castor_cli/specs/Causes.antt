@@ -199,12 +199,12 @@ PreparesTables told told_after rose query script c (Ok ts) = IfSome told (λ (fi
 PreparesTables told told_after rose query script c (Err s) = RestRefused told told_after rose query script c s
 
 -- the bytes are the image of what is built, where the files are told
-abbrev pub IsImageBuilt : Option Files → (Files → Result Content Status → Type 0) → List ℕ → Type 0
-IsImageBuilt told built bytes = (x : Content) × IsImageOf x bytes × IfSome told (λ (files : Files). built files (Ok x))
+abbrev pub AreBytesBuilt : Option Files → (Files → Result Content Status → Type 0) → List ℕ → Type 0
+AreBytesBuilt told built bytes = (x : Content) × IsImageOf x bytes × IfSome told (λ (files : Files). built files (Ok x))
 
 -- what preparing all behind a checked query gives
 abbrev pub PreparesRest : Option Files → Option Files → (List ℕ → Type 0) → List ℕ → List ℕ → Checked → Result (List ℕ) Status → Type 0
-PreparesRest told told_after rose query script c (Ok bytes) = IsImageBuilt told (λ files r. with_query None files script c ≡ r) bytes
+PreparesRest told told_after rose query script c (Ok bytes) = AreBytesBuilt told (λ files r. with_query None files script c ≡ r) bytes
 PreparesRest told told_after rose query script c (Err s) = RestRefused told told_after rose query script c s
 
 -- a status that ends the preparation
@@ -216,5 +216,5 @@ pub record PreparationRefused (told told_after : Option Files) (rose : List ℕ 
 
 -- what preparing a query, a script and tables gives
 abbrev pub Prepares : Option Files → Option Files → (List ℕ → Type 0) → List ℕ → List ℕ → Result (Vec ℕ Global) Stop → Type 0
-Prepares told told_after rose query script (Ok image) = IsImageBuilt told (λ files r. IsBuilt None files query script r) image.items
+Prepares told told_after rose query script (Ok image) = AreBytesBuilt told (λ files r. IsBuilt None files query script r) image.items
 Prepares told told_after rose query script (Err stop) = PreparationRefused told told_after rose query script stop.status stop.table

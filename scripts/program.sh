@@ -4,7 +4,7 @@
 set -eu
 built=$(cd "$(dirname "$0")/.." && pwd)/crates/castor/out/castor
 if [ -z "${CASTOR:-}" ] && [ ! -x "$built" ]; then
-    echo "$(basename "$0"): building the program; each crate is proved first, which takes an hour where no earlier run kept any" >&2
+    echo "$(basename "$0"): building the program; each crate is proved first, which may take an hour where no earlier run kept any" >&2
     # Without a query that is there, it is only built.
     (cd "$(dirname "$0")/../crates/castor" && rt run -- answer none none </dev/null >/dev/null 2>&1) || true
 fi

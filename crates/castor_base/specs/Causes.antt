@@ -1,9 +1,13 @@
 -- When a call of the outside may answer that it failed.
 use Rattle.std.specs.Prelude.{ℕ, ◌+◌, ◌-◌, ◌^◌, ◌≤◌, min, Result, OnErr}
 
--- the count after one more, which stops at 2^64 - 1
+-- what a count of so many shows: it stops at 2^64 - 1
+abbrev pub counted : ℕ → ℕ
+counted number = min number (2 ^ 64 - 1)
+
+-- the count after one more
 abbrev pub one_more : ℕ → ℕ
-one_more count = min (count + 1) (2 ^ 64 - 1)
+one_more count = counted (count + 1)
 
 -- a count of faults rose, or stands at 2^64 - 1
 abbrev pub Rose : ℕ → ℕ → Type 0

@@ -1,5 +1,9 @@
 -- What clauses see of the shelf in memory.
-use Rattle.std.specs.Prelude.{ℕ, false, List, Option, Result, ◌≡◌, IsTrue, MatchResult}
+use Rattle.std.specs.Prelude.{ℕ, false, List, Option, Result, ◌≡◌, ◌≤◌, IsSomeAnd, IsTrue, MatchResult, length, vec_capacity}
+use Rattle.std.specs.BTreeMap.{BTreeMap, get_by_text}
+use Rattle.std.specs.declared.alloc.Global.{Global}
+use Rattle.std.specs.declared.string.String.{String}
+use Rattle.std.specs.declared.vec.Vec.{Vec}
 use Rattle.castor_base.specs.FileMap.{file_of}
 use Rattle.castor_base.specs.Failing.{after_call, after_fault, fails_next}
 use Rattle.castor_base.specs.declared.failing.FailingCalls.{FailingCalls}
@@ -10,6 +14,14 @@ use Rattle.castor_base.specs.declared.shelves.MemoryShelf.{MemoryShelf}
 -- the bytes under a name, if it has some
 abbrev pub shelf_file : MemoryShelf → List ℕ → Option (List ℕ)
 shelf_file s name = file_of s.files name
+
+-- a file under the name has room for these bytes
+abbrev pub HasRoom : BTreeMap (String Global) (Vec ℕ Global) → List ℕ → List ℕ → Type 0
+HasRoom files name bytes = IsSomeAnd (get_by_text files name) (λ v. length bytes ≤ vec_capacity v)
+
+-- no file under the name has room for these bytes, so that the shelf has to grow
+abbrev pub HasToGrow : MemoryShelf → List ℕ → List ℕ → Type 0
+HasToGrow s name bytes = HasRoom s.files name bytes → ⊥
 
 -- the calls that are to fail, and the counts
 abbrev pub shelf_failing : MemoryShelf → FailingCalls

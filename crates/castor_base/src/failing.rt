@@ -5,7 +5,7 @@ ghost use Rattle.castor_base.specs.Causes.{Rose};
 /// The calls of an object in memory that are to fail, by their numbers counted from 0, and the
 /// object's counts of calls and of faults. Both counts stop at 2^64 - 1.
 #[derive(Drop)]
-pub struct FailingCalls {
+pub(crate) struct FailingCalls {
     numbers: Vec<u64>,
     seen: u64,
     faults: u64,
@@ -15,7 +15,7 @@ impl FailingCalls {
     ghost use Rattle.castor_base.specs.Failing.{failing_numbers, calls_seen, faults_seen, fails_next, after_call, after_fault};
 
     /// No call was made yet. The numbers stand in any order.
-    pub fn new(numbers: Vec<u64>) -> Self
+    pub(crate) fn new(numbers: Vec<u64>) -> Self
         ensures numbers { failing_numbers result ≡ numbers.items }
         ensures seen { calls_seen result ≡ 0 }
         ensures faults { faults_seen result ≡ 0 }
@@ -28,21 +28,21 @@ impl FailingCalls {
     }
 
     /// How many calls there were.
-    pub fn seen(&self) -> u64
+    pub(crate) fn seen(&self) -> u64
         ensures { result ≡ calls_seen self.now }
     {
         self.seen
     }
 
     /// How many faults were counted.
-    pub fn faults(&self) -> u64
+    pub(crate) fn faults(&self) -> u64
         ensures { result ≡ faults_seen self.now }
     {
         self.faults
     }
 
     /// Counts a call, and answers whether it is to fail. Linear in the numbers.
-    pub fn count_call(&mut self) -> bool
+    pub(crate) fn count_call(&mut self) -> bool
         ensures listed { result ≡ fails_next self.old }
         ensures after { self.new ≡ after_call self.old }
         ensures faults { faults_seen self.new ≡ faults_seen self.old }
@@ -53,7 +53,7 @@ impl FailingCalls {
     }
 
     /// Counts a fault.
-    pub fn count_fault(&mut self)
+    pub(crate) fn count_fault(&mut self)
         ensures after { self.new ≡ after_fault self.old }
         ensures rose { Rose (faults_seen self.old) (faults_seen self.new) }
         ensures later { faults_seen self.old ≤ faults_seen self.new }

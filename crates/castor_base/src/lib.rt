@@ -16,7 +16,6 @@ mod streams;
 mod tests;
 
 pub use failed::{Failed, ShelfError, TakeError};
-pub use failing::FailingCalls;
 pub use moves::{put_all, put_pieces, read_all};
 pub use outside::{Shelf, Sink, Source};
 pub use paths::PathShelf;

@@ -34,7 +34,7 @@ impl<R: Files> PathShelf<R> {
     }
 
     /// How many calls failed. The number stops at 2^64 - 1.
-    pub fn faults(&self) -> u64
+    pub(crate) fn faults(&self) -> u64
         ensures { result ≡ path_faults self.now }
     {
         self.faults

@@ -1,10 +1,12 @@
 // A shelf in memory.
-ghost use Rattle.std.specs.Prelude.{◌≡◌, ◌≢◌, ◌≤◌, Some, List, ℕ, option_map, IfOk, OnOk, OnErr, IfErr, IsTrue, IsErr};
+ghost use Rattle.std.specs.Prelude.{◌≡◌, ◌≢◌, ◌≤◌, ◌⊎◌, ◌↔◌, Some, List, ℕ, option_map, IfOk, OnOk, OnErr, IfErr, IsTrue, IsOk, IsErr};
 ghost use Rattle.castor_base.specs.Causes.{Rose};
 ghost use Rattle.castor_base.specs.Files.{SameFiles, SameOthers, HasFile, IsTorn, ReadWhy, ReadFile};
 ghost use Rattle.castor_base.specs.FileMap.{file_of};
+ghost use Rattle.castor_base.specs.Shelves.{HasRoom};
 
-use crate::{Failed, FailingCalls, Shelf, ShelfError};
+use crate::failing::FailingCalls;
+use crate::{Failed, Shelf, ShelfError};
 use std::alloc::{AllocError, Global};
 use std::collections::BTreeMap;
 
@@ -45,21 +47,52 @@ impl MemoryShelf {
     }
 
     /// How many calls of `read` and `write` there were.
-    pub fn calls(&self) -> u64
+    pub(crate) fn calls(&self) -> u64
         ensures { result ≡ calls_seen (shelf_failing self.now) }
     {
         self.failing.seen()
     }
 
     /// How many of the calls answered `Failed`.
-    pub fn faults(&self) -> u64
+    pub(crate) fn faults(&self) -> u64
         ensures { result ≡ faults_seen (shelf_failing self.now) }
     {
         self.failing.faults()
     }
 }
 
-// Puts a copy of the bytes under the name.
+// Whether a file under the name has room for so many bytes.
+fn has_room(files: &BTreeMap<String, Vec<u8>>, name: &str, bytes: &[u8]) -> bool
+    ensures { IsTrue result ↔ HasRoom files.now name.now bytes.now }
+{
+    match files.get(name) {
+        Some(old) => bytes.len() <= old.capacity(),
+        None => false,
+    }
+}
+
+// Puts a copy of the bytes into the vector under the name, if there is one.
+fn overwrite(
+    files: &mut BTreeMap<String, Vec<u8>>,
+    name: &str,
+    bytes: &[u8],
+) -> Result<(), AllocError>
+    requires { HasRoom files.old name.now bytes.now }
+    ensures file { file_of files.new name.now ≡ Some bytes.now }
+    ensures others { (n : List ℕ) → n ≢ name.now → file_of files.new n ≡ file_of files.old n }
+    ensures sure { IsOk result }
+{
+    match files.get_mut(name) {
+        Some(old) => {
+            old.clear();
+            old.extend_from_slice(bytes)
+        }
+        None => Err(AllocError),
+    }
+}
+
+// Puts a copy of the bytes under the name: into the vector that is there, if it has room for them,
+// and else into a new one.
 fn put_file(
     alloc: Global,
     files: &mut BTreeMap<String, Vec<u8>>,
@@ -69,7 +102,11 @@ fn put_file(
     ensures file { OnOk result (file_of files.new name.now ≡ Some bytes.now) }
     ensures others { OnOk result ((n : List ℕ) → n ≢ name.now → file_of files.new n ≡ file_of files.old n) }
     ensures err { OnErr result ((n : List ℕ) → file_of files.new n ≡ file_of files.old n) }
+    ensures full { OnErr result (HasRoom files.old name.now bytes.now → ⊥) }
 {
+    if has_room(files, name, bytes) {
+        return overwrite(files, name, bytes);
+    }
     let key = String::from_str(alloc, name)?;
     let value = Vec::from_slice(alloc, bytes)?;
     files.insert(key, value)?;
@@ -78,7 +115,7 @@ fn put_file(
 
 impl Shelf for MemoryShelf {
     ghost use Rattle.castor_base.specs.Failing.{fails_next, faults_seen, CountsCall};
-    ghost use Rattle.castor_base.specs.Shelves.{shelf_file, shelf_failing, CountsRead};
+    ghost use Rattle.castor_base.specs.Shelves.{shelf_file, shelf_failing, CountsRead, HasToGrow};
 
     ghost files = { λ s. Some (shelf_file s) };
 
@@ -108,7 +145,8 @@ impl Shelf for MemoryShelf {
         }
     }
 
-    /// It fails at the calls that are to, and where no memory is found. Then no file changes.
+    /// It fails exactly at the calls that are to and where no file under the name has room for the
+    /// bytes and no memory is found. Then no file changes.
     fn write(&mut self, name: &str, bytes: &[u8]) -> Result<(), Failed>
         ensures others { SameOthers (Some (shelf_file self.old)) (Some (shelf_file self.new)) name.now }
         ensures ok { OnOk result (HasFile (Some (shelf_file self.new)) name.now bytes.now) }
@@ -118,6 +156,7 @@ impl Shelf for MemoryShelf {
         ensures writes { (n : List ℕ) → faults_seen (shelf_failing self.old) ≤ faults_seen (shelf_failing self.new) }
         ensures same { OnErr result (SameFiles (Some (shelf_file self.old)) (Some (shelf_file self.new))) }
         ensures counts { CountsCall (shelf_failing self.old) (shelf_failing self.new) result }
+        ensures only_planned { IsErr result → IsTrue (fails_next (shelf_failing self.old)) ⊎ HasToGrow self.old name.now bytes.now }
     {
         if self.failing.count_call() {
             self.failing.count_fault();

@@ -1,10 +1,11 @@
 // Sinks in memory.
-ghost use Rattle.std.specs.Prelude.{◌≡◌, ◌+◌, ◌-◌, ◌^◌, Some, None, length, min, IsOk, IfOk};
+ghost use Rattle.std.specs.Prelude.{◌≡◌, ◌⊎◌, ◌+◌, Some, None, length, IsOk, IsErr, IfOk, IsTrue};
 ghost use Rattle.std.specs.Io.{WritesAtMost};
 ghost use Rattle.std.specs.Io.KnownBytes.{WriteAppends};
-ghost use Rattle.castor_base.specs.Causes.{HasCause};
+ghost use Rattle.castor_base.specs.Causes.{HasCause, counted};
 
-use crate::{Failed, FailingCalls, Sink};
+use crate::failing::FailingCalls;
+use crate::{Failed, Sink};
 
 /// What was given, in memory, with a list of the calls of `put` that are to fail.
 ///
@@ -40,14 +41,14 @@ impl MemorySink {
     }
 
     /// How many calls of `put` there were.
-    pub fn calls(&self) -> u64
+    pub(crate) fn calls(&self) -> u64
         ensures { result ≡ calls_seen (sink_failing self.now) }
     {
         self.failing.seen()
     }
 
     /// How many of the calls failed.
-    pub fn faults(&self) -> u64
+    pub(crate) fn faults(&self) -> u64
         ensures { result ≡ faults_seen (sink_failing self.now) }
     {
         self.failing.faults()
@@ -55,14 +56,15 @@ impl MemorySink {
 }
 
 impl Sink for MemorySink {
-    ghost use Rattle.castor_base.specs.Failing.{faults_seen, CountsCall};
-    ghost use Rattle.castor_base.specs.Sinks.{sink_given, sink_failing};
+    ghost use Rattle.castor_base.specs.Failing.{fails_next, faults_seen, CountsCall};
+    ghost use Rattle.castor_base.specs.Sinks.{sink_given, sink_failing, HasToGrow};
 
     ghost given = { λ s. Some (sink_given s) };
 
     ghost faults = { λ s. faults_seen (sink_failing s) };
 
-    /// Takes the piece whole. It fails at the calls that are to, and where no memory is found.
+    /// Takes the piece whole. It fails exactly at the calls that are to and where its vector has
+    /// to grow and no memory is found.
     fn put(&mut self, bytes: &[u8]) -> Result<usize, Failed>
         ensures bound { WritesAtMost result bytes.now }
         ensures some { IfOk result (λ n. n ≡ 0 → length bytes.now ≡ 0) }
@@ -70,6 +72,7 @@ impl Sink for MemorySink {
         ensures cause { HasCause (faults_seen (sink_failing self.old)) (faults_seen (sink_failing self.new)) result }
         ensures whole { IfOk result (λ n. n ≡ length bytes.now) }
         ensures counts { CountsCall (sink_failing self.old) (sink_failing self.new) result }
+        ensures only_planned { IsErr result → IsTrue (fails_next (sink_failing self.old)) ⊎ HasToGrow self.old bytes.now }
     {
         if self.failing.count_call() {
             self.failing.count_fault();
@@ -121,7 +124,7 @@ impl Sink for CountSink {
         ensures bytes { WriteAppends None None result bytes.now }
         ensures cause { HasCause 0 0 result }
         ensures whole { IfOk result (λ n. n ≡ length bytes.now) }
-        ensures count { count_of self.new ≡ min (count_of self.old + length bytes.now) (2 ^ 64 - 1) }
+        ensures count { count_of self.new ≡ counted (count_of self.old + length bytes.now) }
         ensures sure { IsOk result }
     {
         self.count = self.count.saturating_add(bytes.len() as u64);

@@ -4,7 +4,8 @@ ghost use Rattle.std.specs.Io.{ReadsAtMost};
 ghost use Rattle.std.specs.Io.KnownBytes.{ReadConsumes};
 ghost use Rattle.castor_base.specs.Causes.{HasCause};
 
-use crate::{Failed, FailingCalls, Source};
+use crate::failing::FailingCalls;
+use crate::{Failed, Source};
 
 // Copies the front of a slice into the front of another, as much as both have room for.
 fn copy_front(from: &[u8], to: &mut [u8]) -> usize
@@ -95,14 +96,14 @@ impl MemorySource {
     }
 
     /// How many calls of `take` there were.
-    pub fn calls(&self) -> u64
+    pub(crate) fn calls(&self) -> u64
         ensures { result ≡ calls_seen (source_failing self.now) }
     {
         self.failing.seen()
     }
 
     /// How many of the calls failed.
-    pub fn faults(&self) -> u64
+    pub(crate) fn faults(&self) -> u64
         ensures { result ≡ faults_seen (source_failing self.now) }
     {
         self.failing.faults()

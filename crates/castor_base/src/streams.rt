@@ -24,7 +24,7 @@ impl<R: Read> ReaderSource<R> {
     }
 
     /// How many calls of `take` failed. The number stops at 2^64 - 1.
-    pub fn faults(&self) -> u64
+    pub(crate) fn faults(&self) -> u64
         ensures { result ≡ reader_faults self.now }
     {
         self.faults
@@ -68,7 +68,7 @@ impl<W: Write> WriterSink<W> {
     }
 
     /// How many calls of `put` failed. The number stops at 2^64 - 1.
-    pub fn faults(&self) -> u64
+    pub(crate) fn faults(&self) -> u64
         ensures { result ≡ writer_faults self.now }
     {
         self.faults

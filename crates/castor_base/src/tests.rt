@@ -4,12 +4,11 @@ ghost use Rattle.std.specs.Prelude.{◌≡◌, ◌+◌, ◌<◌};
 use super::*;
 use std::alloc::{AllocError, Global};
 use std::collections::BTreeMap;
-use std::fs;
 use std::io::{self, ErrorKind};
 use std::marker::Brand;
-use std::rt::Files;
 use std::sync::ledger::{Blank, Ledger};
 use std::test::Fail;
+use std::{env, fs};
 
 const TEN: &[u8] = b"0123456789";
 
@@ -18,10 +17,11 @@ fn source(alloc: Global, bytes: &[u8], failing: &[u64]) -> Result<MemorySource, 
     Ok(MemorySource::new(bytes, failing.to_vec(alloc)?))
 }
 
-// A new folder for a test's files.
-fn scratch(rt: &impl Files, alloc: Global) -> io::Result<String> {
+// A new folder for a test's files, where the system keeps what is temporary.
+fn scratch(rt: &HostRuntime, alloc: Global) -> io::Result<String> {
+    let place = env::temp_dir(rt)?;
     for number in 0..1000u64 {
-        let folder = format!(in alloc; "/tmp/castor_base_{number}")?;
+        let folder = format!(in alloc; "{}/castor_base_{number}", place.display())?;
         match fs::create_dir(rt, folder.as_str()) {
             Ok(()) => return Ok(folder),
             Err(e) if e.kind() == ErrorKind::AlreadyExists => {}

@@ -18,31 +18,32 @@ use Rattle.castor_val.specs.declared.value.Ty.TheVariants as ty
 use Rattle.castor_val.specs.declared.value.Value.TheVariants.{Int, Bool as Truth, Text}
 use Rattle.castor_val.specs.declared.field.FieldError.{FieldError}
 use Rattle.castor_val.specs.declared.field.FieldError.TheVariants.{NotOfType, TooLong}
+use Rattle.castor_val.specs.Limits.{most_text_bytes}
 use Rattle.castor_val.specs.Values.{is_int, value_fits}
 use Rattle.castor_val.specs.Fields.{bool_field, field_value, int_field, is_numeral, text_field, value_text}
 use mir.Val.{to_z, of_z}
 
 -- a text is a text value, or too long for one
-pub text_field-short : (bytes : List ℕ) → IsUtf8 bytes → length bytes ≤ 65535 → text_field bytes ≡ Ok (Text bytes)
+pub text_field-short : (bytes : List ℕ) → IsUtf8 bytes → length bytes ≤ most_text_bytes → text_field bytes ≡ Ok (Text bytes)
 text_field-short bytes text short =
     let utf8 : is_utf8 bytes ≡ true = is_utf8-from_IsUtf8 bytes text in
-    let fits : nat_le (length bytes) 65535 ≡ true = le-leb (length bytes) 65535 short in
+    let fits : nat_le (length bytes) most_text_bytes ≡ true = le-leb (length bytes) most_text_bytes short in
     rw (utf8, fits) refl
 
-pub text_field-long : (bytes : List ℕ) → IsUtf8 bytes → 65535 < length bytes → text_field bytes ≡ Err TooLong
+pub text_field-long : (bytes : List ℕ) → IsUtf8 bytes → most_text_bytes < length bytes → text_field bytes ≡ Err TooLong
 text_field-long bytes text long =
     let utf8 : is_utf8 bytes ≡ true = is_utf8-from_IsUtf8 bytes text in
-    let fits : nat_le (length bytes) 65535 ≡ false = lt-leb (length bytes) 65535 long in
+    let fits : nat_le (length bytes) most_text_bytes ≡ false = lt-leb (length bytes) most_text_bytes long in
     rw (utf8, fits) refl
 
 -- a text that is refused is too long
-text_field-by : (bytes : List ℕ) (utf8 short : Bool) → is_utf8 bytes ≡ utf8 → nat_le (length bytes) 65535 ≡ short → utf8 ≡ true → result_ok (text_field bytes) ≡ None → text_field bytes ≡ Err TooLong
+text_field-by : (bytes : List ℕ) (utf8 short : Bool) → is_utf8 bytes ≡ utf8 → nat_le (length bytes) most_text_bytes ≡ short → utf8 ≡ true → result_ok (text_field bytes) ≡ None → text_field bytes ≡ Err TooLong
 text_field-by bytes true true u s e refused = absurd (let read : text_field bytes ≡ Ok (Text bytes) = rw (u, s) refl in let some = rw read at refused in cc)
 text_field-by bytes true false u s e refused = rw (u, s) refl
 text_field-by bytes false short u s e refused = cc
 
 pub text_field-refused : (bytes : List ℕ) → IsUtf8 bytes → result_ok (text_field bytes) ≡ None → text_field bytes ≡ Err TooLong
-text_field-refused bytes text refused = text_field-by bytes true (nat_le (length bytes) 65535) (is_utf8-from_IsUtf8 bytes text) refl refl refused
+text_field-refused bytes text refused = text_field-by bytes true (nat_le (length bytes) most_text_bytes) (is_utf8-from_IsUtf8 bytes text) refl refl refused
 
 own_digits : IsNumeralModel (λ ds. all_ascii_digits ds ≡ true) (digits_value 10)
 own_digits = numerals_by_value _ tells_all_ascii_digits
@@ -137,7 +138,7 @@ bool_field_fits bytes v true second y n e = let read : bool_field bytes ≡ Ok (
 bool_field_fits bytes v false true y n e = let read : bool_field bytes ≡ Ok (Truth false) = rw (y, n) refl in let is : v ≡ Truth false = cc in rw is refl
 bool_field_fits bytes v false false y n e = let read : bool_field bytes ≡ Err NotOfType = rw (y, n) refl in cc
 
-text_field_fits : (bytes : List ℕ) (v : Value) (utf8 short : Bool) → is_utf8 bytes ≡ utf8 → nat_le (length bytes) 65535 ≡ short → text_field bytes ≡ Ok v → value_fits v ty.Text ≡ true
+text_field_fits : (bytes : List ℕ) (v : Value) (utf8 short : Bool) → is_utf8 bytes ≡ utf8 → nat_le (length bytes) most_text_bytes ≡ short → text_field bytes ≡ Ok v → value_fits v ty.Text ≡ true
 text_field_fits bytes v true true u s e = let read : text_field bytes ≡ Ok (Text bytes) = rw (u, s) refl in let is : v ≡ Text bytes = cc in rw (is, u, s) refl
 text_field_fits bytes v true false u s e = let read : text_field bytes ≡ Err TooLong = rw (u, s) refl in cc
 text_field_fits bytes v false short u s e = let read : text_field bytes ≡ Err NotOfType = rw u refl in cc
@@ -145,7 +146,7 @@ text_field_fits bytes v false short u s e = let read : text_field bytes ≡ Err 
 pub field_value_fits : (t : Ty) (bytes : List ℕ) (v : Value) → field_value t bytes ≡ Ok v → value_fits v t ≡ true
 field_value_fits ty.Int bytes v e = int_field_fits bytes v (is_numeral (without_leading_sign bytes)) (is_int (signed_digits_value 10 bytes)) refl refl e
 field_value_fits ty.Bool bytes v e = bool_field_fits bytes v (bytes_eq bytes true_text) (bytes_eq bytes false_text) refl refl e
-field_value_fits ty.Text bytes v e = text_field_fits bytes v (is_utf8 bytes) (nat_le (length bytes) 65535) refl refl e
+field_value_fits ty.Text bytes v e = text_field_fits bytes v (is_utf8 bytes) (nat_le (length bytes) most_text_bytes) refl refl e
 
 -- what a value is printed as is read back as the value
 int_text_back : (z : ℤ) (test : Bool) → FitsSigned w64 z → is_int_field (signed_decimal z) ≡ test → int_field (signed_decimal z) ≡ Ok (Int z)
@@ -157,11 +158,11 @@ int_text_back z false fits e =
     let read = parse-signed_decimal {E = FieldError} w64 z (signed_decimal z) (Err NotOfType) fits fits.sfits refl (λ h. let yes = is_int_field-from (signed_decimal z) h in cc) in
     cc
 
-text_back : (bytes : List ℕ) → (is_utf8 bytes && nat_le (length bytes) 65535) ≡ true → text_field bytes ≡ Ok (Text bytes)
+text_back : (bytes : List ℕ) → (is_utf8 bytes && nat_le (length bytes) most_text_bytes) ≡ true → text_field bytes ≡ Ok (Text bytes)
 text_back bytes within =
-    let parts = and_parts (is_utf8 bytes) (nat_le (length bytes) 65535) within in
+    let parts = and_parts (is_utf8 bytes) (nat_le (length bytes) most_text_bytes) within in
     let utf8 : is_utf8 bytes ≡ true = parts.0 in
-    let short : nat_le (length bytes) 65535 ≡ true = parts.1 in
+    let short : nat_le (length bytes) most_text_bytes ≡ true = parts.1 in
     rw (utf8, short) refl
 
 pub field_value-value_text : (v : Value) (t : Ty) → value_fits v t ≡ true → field_value t (value_text v) ≡ Ok v

@@ -3,6 +3,7 @@ use Rattle.std.specs.Prelude.{◌≡◌, ℕ, List, true, false, ◌&&◌, Bool,
 use Rattle.std.specs.Fmt.{signed_decimal}
 use Rattle.std.specs.Str.{all_ascii_digits, bytes_eq, is_utf8}
 use Rattle.std.specs.Str.Parse.{true_text, false_text, without_leading_sign, signed_digits_value}
+use Rattle.castor_val.specs.Limits.{most_text_bytes}
 use Rattle.castor_val.specs.Values.{is_int, value_fits}
 use Rattle.castor_val.specs.declared.value.Ty.{Ty}
 use Rattle.castor_val.specs.declared.value.Ty.TheVariants as ty
@@ -25,7 +26,7 @@ bool_field bytes = if bytes_eq bytes true_text then Ok (Truth true) else if byte
 
 -- a text field is UTF-8 of at most 65,535 bytes
 abbrev pub text_field : List ℕ → Result Value FieldError
-text_field bytes = if is_utf8 bytes then (if nat_le (length bytes) 65535 then Ok (Text bytes) else Err TooLong) else Err NotOfType
+text_field bytes = if is_utf8 bytes then (if nat_le (length bytes) most_text_bytes then Ok (Text bytes) else Err TooLong) else Err NotOfType
 
 -- the value that a field is read as at a type, or why it is refused
 abbrev pub field_value : Ty → List ℕ → Result Value FieldError

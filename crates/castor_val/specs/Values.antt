@@ -7,6 +7,7 @@ use Rattle.std.specs.declared.cmp.Ordering.TheVariants.{Less, Equal, Greater}
 use Rattle.std.specs.Ordering.{nat_cmp, int_cmp, bool_cmp, is_eq}
 use Rattle.std.specs.Cmp.{IsTotalOrder}
 use Rattle.std.specs.Cmp.Lexicographic.{slice_cmp}
+use Rattle.castor_val.specs.Limits.{most_text_bytes}
 use Rattle.castor_val.specs.declared.value.Ty.{Ty}
 use Rattle.castor_val.specs.declared.value.Ty.TheVariants as ty
 use Rattle.castor_val.specs.declared.value.Value.{Value}
@@ -52,7 +53,7 @@ is_int (negsuc n) = nat_lt n (2 ^ 63)
 abbrev pub is_within_limits : Value → Bool
 is_within_limits (Int z) = is_int z
 is_within_limits (Truth b) = true
-is_within_limits (Text t) = is_utf8 t && nat_le (length t) 65535
+is_within_limits (Text t) = is_utf8 t && nat_le (length t) most_text_bytes
 
 -- whether a value fits a type: it is of the type and keeps the limits
 abbrev pub value_fits : Value → Ty → Bool
@@ -116,6 +117,10 @@ pub record IsRowOrder : Type 0 where
 -- the empty set of faults
 abbrev pub no_faults : Faults
 no_faults = record { division = false; overflow = false; norows = false }
+
+-- whether a set has some fault
+abbrev pub has_faults : Faults → Bool
+has_faults faults = faults.division || (faults.overflow || faults.norows)
 
 -- the set of division alone
 abbrev pub division_fault : Faults

@@ -1,7 +1,7 @@
 //! The faults that the evaluation of a query can meet, and sets of them.
 
-ghost use Rattle.std.specs.Prelude.{◌≡◌, ◌↔◌, IsTrue};
-ghost use Rattle.castor_val.specs.Values.{has_fault, no_faults, union};
+ghost use Rattle.std.specs.Prelude.{◌≡◌, ◌↔◌, IsTrue, not};
+ghost use Rattle.castor_val.specs.Values.{has_fault, has_faults, no_faults, union};
 
 /// Why an expression or an aggregate has no value.
 #[derive(Clone, Copy, Debug, PartialEq, Eq)]
@@ -10,7 +10,7 @@ pub enum Fault {
     Division,
     /// A whole number that is no int.
     Overflow,
-    /// The least or the greatest value of no rows.
+    /// The least or the greatest value of no rows, which a fault line calls `norows`.
     NoRows,
 }
 
@@ -78,7 +78,8 @@ impl Faults {
 
     /// Whether the set has no fault.
     pub fn is_empty(self) -> bool
-        ensures { IsTrue result ↔ (self ≡ no_faults) }
+        ensures test { result ≡ not (has_faults self) }
+        ensures none { IsTrue result ↔ (self ≡ no_faults) }
     {
         !(self.division || self.overflow || self.norows)
     }

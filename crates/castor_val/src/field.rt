@@ -7,12 +7,10 @@ ghost use Rattle.castor_val.specs.Gives.{Gives};
 ghost use Rattle.castor_val.specs.Values.{value_fits, value_of};
 ghost use Rattle.castor_val.specs.declared.field.FieldError.TheVariants as error;
 
+use crate::limits::MAX_TEXT;
 use crate::memory::Memory;
 use crate::value::{Cell, Ty, Value};
 use std::alloc::Global;
-
-/// The most bytes that a text value has.
-pub const MAX_TEXT: usize = 65_535;
 
 /// Why a field was not read as a value.
 #[derive(Clone, Copy, Debug, PartialEq, Eq)]

@@ -39,8 +39,8 @@ pub fn compare_rows(a: &[Cell], b: &[Cell]) -> Ordering
     a.cmp(b)
 }
 
-/// Whether two rows have the same values in the same places. Linear in the shorter row and its
-/// texts.
+/// Whether two rows have the same values in the same places, as rows of one group of a `groupby`
+/// have in its keys. Linear in the shorter row and its texts.
 pub fn is_same_row(a: &[Cell], b: &[Cell]) -> bool
     ensures { IsTrue result ↔ (map value_of a.now ≡ map value_of b.now) }
 {

@@ -40,14 +40,6 @@ impl Row {
         Row { values }
     }
 
-    /// The values of the row.
-    pub fn into_vec(self) -> Vec<Value>
-        ensures { result.items ≡ self }
-    {
-        let Row { values } = self;
-        values
-    }
-
     /// The values of the row, borrowed.
     pub fn as_slice(&self) -> &[Value]
         ensures { result.now ≡ self.now }

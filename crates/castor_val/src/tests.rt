@@ -7,6 +7,7 @@ use crate::memory::Memory;
 use crate::order::{compare, compare_rows, is_same, is_same_row};
 use crate::print::TextBuffer;
 use crate::row::Row;
+use crate::row_order::{compare_values, compare_with_cells};
 use crate::table::Table;
 use crate::text::Text;
 use crate::value::{Cell, Ty, Value};
@@ -218,4 +219,19 @@ fn unites_faults(rt: HostRuntime) {
     assert!(rt; !both.contains(Fault::Overflow));
     assert!(rt; Faults::NONE.is_empty() && !Faults::OVERFLOW.is_empty());
     assert_eq!(rt; both.union(Faults::NONE), both);
+}
+
+#[test]
+fn orders_rows_that_own_their_values(rt: HostRuntime) {
+    let (short, long) = ([Value::Int(1)], [Value::Int(1), Value::Bool(false)]);
+    assert_eq!(rt; compare_values(&short, &long), Ordering::Less);
+    assert_eq!(rt; compare_values(&long, &long), Ordering::Equal);
+    assert_eq!(rt;
+        compare_with_cells(&long, &[Cell::Int(0)]),
+        Ordering::Greater
+    );
+    assert_eq!(rt;
+        compare_with_cells(&short, &[Cell::Int(1)]),
+        Ordering::Equal
+    );
 }

@@ -1,6 +1,9 @@
+pub mod EachOperandLaws
 pub mod ExprInduction
 pub mod FreshLaws
 pub mod OperandLaws
+pub mod PathLaws
 pub mod RelInduction
+pub mod SubstitutionAnswers
 pub mod TypingAnswers
 pub mod TypingLaws

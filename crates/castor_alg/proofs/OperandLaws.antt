@@ -5,6 +5,8 @@ use Rattle.std.proofs.lemmas.List.Folds.{list_all-map}
 use Rattle.castor_alg.specs.declared.rel.Rel.{Rel}
 use Rattle.castor_alg.specs.Sizes.{nodes, depth, deepest}
 use Rattle.castor_alg.specs.FreeScopes.{is_free}
+use Rattle.castor_alg.specs.Substitution.{captures}
+use Rattle.castor_alg.specs.declared.expr.Expr.{Expr}
 use Rattle.castor_alg.specs.Totality.{is_total}
 
 -- a relation has one node more than its operands have
@@ -30,3 +32,7 @@ free_in_operands scope q rs slice result all same found = found ∙ ap (list_any
 -- a relation is total where its operands are
 pub total_over_operands : (q : Rel) (rs slice : List Rel) (result : Bool) → is_total q ≡ list_all (λ b. b) (map is_total rs) → slice ≡ rs → result ≡ list_all is_total slice → result ≡ is_total q
 total_over_operands q rs slice result all same found = found ∙ ap (list_all is_total) same ∙ sym (list_all-map (λ b. b) is_total rs) ∙ sym all
+
+-- a binder captures in a relation where one does in an operand
+pub captures_in_operands : (k : ℕ) (by : List Expr) (q : Rel) (rs slice : List Rel) (result : Bool) → captures k by q ≡ list_any (λ b. b) (map (captures k by) rs) → slice ≡ rs → result ≡ list_any (captures k by) slice → result ≡ captures k by q
+captures_in_operands k by q rs slice result all same found = found ∙ ap (list_any (captures k by)) same ∙ sym (list_any-map (captures k by) rs) ∙ sym all

@@ -1,4 +1,4 @@
--- Groups and their aggregates.
+-- Groups and their aggregates: what `groupby` means.
 use Rattle.std.specs.Prelude.{ℕ, ℤ, pos, ◌+ℤ◌, ◌^◌, ◌-◌, min, List, [], ◌∷◌, ◌++◌, length, map, filter, fold, if◌then◌else◌, Result, Ok, Err}
 use Rattle.std.specs.Ordering.{is_lt, is_gt}
 use Rattle.castor_val.specs.declared.value.Value.{Value}

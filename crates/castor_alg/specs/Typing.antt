@@ -5,6 +5,7 @@ use Rattle.std.specs.Cmp.Lexicographic.{pointwise}
 use Rattle.castor_val.specs.declared.value.Ty.{Ty}
 use Rattle.castor_val.specs.declared.value.Ty.TheVariants.{Int, Bool as Truth, Text}
 use Rattle.castor_val.specs.declared.value.Value.{Value}
+use Rattle.castor_val.specs.Limits.{most_columns, most_hash_columns, most_sorting_keys}
 use Rattle.castor_val.specs.Values.{type_of_value, is_within_limits}
 use Rattle.castor_alg.specs.declared.context.Context.{Context}
 use Rattle.castor_alg.specs.declared.expr.Op.{Op}
@@ -70,7 +71,7 @@ scope_types scopes k = fold (λ found entry. if entry.0 == k then Some entry.1 e
 abbrev pub extended : Context → ℕ → List Ty → Context
 extended context k types = record context { scopes = context.scopes ++ (k, types) ∷ [] }
 
--- a text has at most 65,535 bytes
+-- a text has at most 65,535 bytes: a longer one is TooLong for a field, and here has no type
 abbrev pub literal_type : Value → Option Ty
 literal_type v = allowed (is_within_limits v) (type_of_value v)
 
@@ -122,7 +123,7 @@ types_of_each es columns context = each (map (λ e. type_under e columns context
 
 -- a table, a scope and a relation have 1 to 64 columns
 abbrev pub are_columns : List Ty → Bool
-are_columns types = nat_lt 0 (length types) && nat_le (length types) 64
+are_columns types = nat_lt 0 (length types) && nat_le (length types) most_columns
 
 -- the types, where they are 1 to 64
 abbrev pub within_limits : Option (List Ty) → Option (List Ty)
@@ -149,12 +150,12 @@ group_types ks aggs columns = within_limits (with_both (λ keys values. keys ++ 
 
 -- 1 to 65,535 keys, each on a column that is there
 abbrev pub are_sorting_keys : List Key → List Ty → Bool
-are_sorting_keys ks columns = (nat_lt 0 (length ks) && nat_le (length ks) 65535) && list_all (λ k. nat_lt k.col (length columns)) ks
+are_sorting_keys ks columns = (nat_lt 0 (length ks) && nat_le (length ks) most_sorting_keys) && list_all (λ k. nat_lt k.col (length columns)) ks
 
 -- at most 4 key columns, and keys of their types
 abbrev pub are_hash_keys : List Ty → Option (List Ty) → Bool
 are_hash_keys columns None = false
-are_hash_keys columns (Some keys) = nat_le (length columns) 4 && same_types columns keys
+are_hash_keys columns (Some keys) = nat_le (length columns) most_hash_columns && same_types columns keys
 
 -- a bound of the type, over no columns
 abbrev pub is_bound : Ty → Bound → Context → Bool

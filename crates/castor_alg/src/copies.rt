@@ -136,7 +136,8 @@ pub fn copy_all(alloc: Global, queries: &[Rel]) -> Result<Items<Rel>, Memory>
     Ok(copies)
 }
 
-fn copy_items<T: Copy>(alloc: Global, items: &[T]) -> Result<Items<T>, Memory>
+/// Equal items. Linear in their number.
+pub fn copy_items<T: Copy>(alloc: Global, items: &[T]) -> Result<Items<T>, Memory>
     ensures { IfOk result (λ copies. copies ≡ items.now) }
 {
     Ok(Items::from_slice(alloc, items)?)

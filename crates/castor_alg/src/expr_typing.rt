@@ -8,11 +8,8 @@ ghost use Rattle.castor_alg.specs.Typing.{agreed, allowed, are_columns, choice_t
 use crate::context::Context;
 use crate::expr::{Expr, Op};
 use crate::type_env::{TypeEnv, type_at};
-use castor_val::{MAX_TEXT, Ty, Value};
+use castor_val::{MAX_COLUMNS, MAX_TEXT, Ty, Value};
 use sqlite_items::Items;
-
-/// The most columns that a table, a scope or a relation has.
-pub const MAX_COLUMNS: usize = 64;
 
 /// The type of an expression over columns of these types, and None exactly where it isn't well typed
 /// there. Linear in the tree, the scopes in force for each node that reads one, and the context. Takes

@@ -68,7 +68,8 @@ fn is_free_in_any(queries: &[Rel], scope: u32) -> bool
     false
 }
 
-fn is_read_in_any(es: &[Expr], scope: u32) -> bool
+/// Whether an expression reads the scope. Linear in the trees.
+pub fn is_read_in_any(es: &[Expr], scope: u32) -> bool
     ensures { result ≡ list_any (reads scope) es.now }
 {
     for e in es {

@@ -50,18 +50,19 @@ pub enum Rel {
     Filter(Expr, Boxed<Rel>),
     /// The pairs of rows on which the condition is true.
     Join(Expr, Boxed<Rel>, Boxed<Rel>),
-    /// The rows of the body under each row of the source.
+    /// `depjoin`: the rows of the body under each row of the source.
     DepJoin(u32, Boxed<Rel>, Boxed<Rel>),
-    /// The grouping keys, the aggregates, and what is grouped.
+    /// `groupby`: the grouping keys, the aggregates, and what is grouped.
     Group(Items<u32>, Items<Agg>, Boxed<Rel>),
+    /// `orderby`: the rows sorted stably by the keys.
     Order(Items<Key>, Boxed<Rel>),
-    /// The distinct rows.
+    /// `dedup`: the distinct rows.
     Dedup(Boxed<Rel>),
-    /// A stored list: what `DepJoin` gives.
+    /// `list`: a stored list, what `DepJoin` gives.
     List(u32, Boxed<Rel>, Boxed<Rel>),
-    /// A hash index: the body under the row of the source that equals the values looked up.
+    /// `hash`, a hash index: the body under the row of the source that equals the values looked up.
     Hash(u32, Boxed<Rel>, Boxed<Rel>, Items<Expr>),
-    /// An ordered index: the body under each distinct row of the source within a lower and an upper
-    /// bound, ascending.
+    /// `ordered`, an ordered index: the body under each distinct row of the source within a lower and an
+    /// upper bound, ascending.
     Ord(u32, Boxed<Rel>, Boxed<Rel>, Bound, Bound),
 }

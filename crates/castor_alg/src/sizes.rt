@@ -1,6 +1,7 @@
 //! The number of nodes of a tree and its depth.
 
-ghost use Rattle.std.specs.Prelude.{◌≡◌, ◌+◌, ◌-◌, ◌^◌, min, map, sum};
+ghost use Rattle.std.specs.Prelude.{◌≡◌, ◌+◌, min, map, sum};
+ghost use Rattle.castor_val.specs.Limits.{most_count};
 ghost use Rattle.castor_alg.specs.Sizes.{all_expr_nodes, bound_depth, bound_nodes, deepest, deepest_expr, depth, expr_depth, expr_nodes, nodes};
 
 use crate::expr::Expr;
@@ -8,7 +9,7 @@ use crate::rel::{Bound, Rel};
 
 /// The number of nodes of an expression, and 2^64 - 1 where there are more. Linear in the tree.
 pub fn expr_nodes(e: &Expr) -> u64
-    ensures { result ≡ min (expr_nodes e.now) (2 ^ 64 - 1) }
+    ensures { result ≡ min (expr_nodes e.now) most_count }
 {
     match e {
         Expr::Col(_) => 1,
@@ -29,7 +30,7 @@ pub fn expr_nodes(e: &Expr) -> u64
 /// Linear in the tree.
 #[cycle(nodes)]
 pub fn nodes(query: &Rel) -> u64
-    ensures { result ≡ min (nodes query.now) (2 ^ 64 - 1) }
+    ensures { result ≡ min (nodes query.now) most_count }
 {
     match query {
         Rel::Table(_) => 1,
@@ -61,7 +62,7 @@ pub fn nodes(query: &Rel) -> u64
 /// The depth of an expression, which is 1 where it has no parts, and 2^64 - 1 where it is deeper.
 /// Linear in the tree.
 pub fn expr_depth(e: &Expr) -> u64
-    ensures { result ≡ min (expr_depth e.now) (2 ^ 64 - 1) }
+    ensures { result ≡ min (expr_depth e.now) most_count }
 {
     match e {
         Expr::Col(_) => 1,
@@ -82,7 +83,7 @@ pub fn expr_depth(e: &Expr) -> u64
 /// it is deeper. Linear in the tree.
 #[cycle(depth)]
 pub fn depth(query: &Rel) -> u64
-    ensures { result ≡ min (depth query.now) (2 ^ 64 - 1) }
+    ensures { result ≡ min (depth query.now) most_count }
 {
     match query {
         Rel::Table(_) => 1,
@@ -113,7 +114,7 @@ pub fn depth(query: &Rel) -> u64
 
 /// A node and all the nodes of its parts.
 fn node_over(parts: &[u64]) -> u64
-    ensures { result ≡ min (1 + sum parts.now) (2 ^ 64 - 1) }
+    ensures { result ≡ min (1 + sum parts.now) most_count }
 {
     let mut count: u64 = 1;
     for part in parts {
@@ -124,7 +125,7 @@ fn node_over(parts: &[u64]) -> u64
 
 /// One level more than the deepest part.
 fn level_over(parts: &[u64]) -> u64
-    ensures { result ≡ min (1 + deepest parts.now) (2 ^ 64 - 1) }
+    ensures { result ≡ min (1 + deepest parts.now) most_count }
 {
     let mut most: u64 = 0;
     for part in parts {
@@ -135,7 +136,7 @@ fn level_over(parts: &[u64]) -> u64
 
 #[cycle(nodes)]
 fn nodes_of_all(queries: &[Rel]) -> u64
-    ensures { result ≡ min (sum (map nodes queries.now)) (2 ^ 64 - 1) }
+    ensures { result ≡ min (sum (map nodes queries.now)) most_count }
 {
     let mut count: u64 = 0;
     for query in queries {
@@ -145,7 +146,7 @@ fn nodes_of_all(queries: &[Rel]) -> u64
 }
 
 fn expr_nodes_of_all(es: &[Expr]) -> u64
-    ensures { result ≡ min (all_expr_nodes es.now) (2 ^ 64 - 1) }
+    ensures { result ≡ min (all_expr_nodes es.now) most_count }
 {
     let mut count: u64 = 0;
     for e in es {
@@ -155,7 +156,7 @@ fn expr_nodes_of_all(es: &[Expr]) -> u64
 }
 
 fn nodes_of_bound(bound: &Bound) -> u64
-    ensures { result ≡ min (bound_nodes bound.now) (2 ^ 64 - 1) }
+    ensures { result ≡ min (bound_nodes bound.now) most_count }
 {
     match bound {
         Bound::Any => 0,
@@ -166,7 +167,7 @@ fn nodes_of_bound(bound: &Bound) -> u64
 
 #[cycle(depth)]
 fn depth_of_all(queries: &[Rel]) -> u64
-    ensures { result ≡ min (deepest (map depth queries.now)) (2 ^ 64 - 1) }
+    ensures { result ≡ min (deepest (map depth queries.now)) most_count }
 {
     let mut most: u64 = 0;
     for query in queries {
@@ -176,7 +177,7 @@ fn depth_of_all(queries: &[Rel]) -> u64
 }
 
 fn expr_depth_of_all(es: &[Expr]) -> u64
-    ensures { result ≡ min (deepest_expr es.now) (2 ^ 64 - 1) }
+    ensures { result ≡ min (deepest_expr es.now) most_count }
 {
     let mut most: u64 = 0;
     for e in es {
@@ -186,7 +187,7 @@ fn expr_depth_of_all(es: &[Expr]) -> u64
 }
 
 fn depth_of_bound(bound: &Bound) -> u64
-    ensures { result ≡ min (bound_depth bound.now) (2 ^ 64 - 1) }
+    ensures { result ≡ min (bound_depth bound.now) most_count }
 {
     match bound {
         Bound::Any => 0,

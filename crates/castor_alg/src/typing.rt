@@ -14,14 +14,8 @@ use crate::expr::Expr;
 use crate::expr_typing::{are_columns, expr_type_in, is_context, is_of};
 use crate::rel::{Agg, Bound, Key, Rel};
 use crate::type_env::{TypeEnv, type_at};
-use castor_val::{Memory, Ty};
+use castor_val::{MAX_HASH_COLUMNS, MAX_SORTING_KEYS, Memory, Ty};
 use std::alloc::{AllocError, AllocFailed, Global};
-
-/// The most key columns of a hash index.
-pub const MAX_HASH_COLUMNS: usize = 4;
-
-/// The most keys of an `Order`.
-pub const MAX_SORTING_KEYS: usize = 65_535;
 
 /// Why a relation has no column types.
 #[derive(Clone, Copy, Debug, PartialEq, Eq)]

@@ -1,16 +1,10 @@
 //! Sizes, free scopes, totality and fresh scopes of small relations.
 
-use crate::copies::copy;
-use crate::expr::Op;
-use crate::free_scopes::is_free;
-use crate::rel::{Agg, Bound, Rel};
-use crate::scope_numbers::fresh;
-use crate::sizes::{depth, nodes};
-use crate::tests::build::{
+use crate::build::{
     MadeRel, bin, cross, dep_join, excl, filter, group, hash, incl, int, list, not, one, ord,
     param, scalar, scope, table, truth,
 };
-use crate::totality::is_total;
+use castor_alg::{Agg, Bound, Op, Rel, copy, depth, fresh, is_free, is_total, nodes};
 use std::alloc::Global;
 use std::process::Abort;
 use std::test::Fail;

@@ -1,8 +1,6 @@
 //! Small trees.
 
-use crate::assembly::{both, boxed};
-use crate::expr::{Expr, Op};
-use crate::rel::{Agg, Bound, Key, Rel};
+use castor_alg::{Agg, Bound, Expr, Key, Op, Rel, both, boxed};
 use castor_val::{Memory, Text, Value};
 use sqlite_items::Items;
 use std::alloc::Global;

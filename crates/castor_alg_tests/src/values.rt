@@ -1,9 +1,7 @@
 //! What expressions give.
 
-use crate::env::Env;
-use crate::evaluation::value;
-use crate::expr::{Expr, Op};
-use crate::tests::build::{MadeExpr, bin, choice, col, int, not, param, scope, text, truth};
+use crate::build::{MadeExpr, bin, choice, col, int, not, param, scope, text, truth};
+use castor_alg::{Env, Expr, Op, value};
 use castor_val::{Cell, Faults};
 use std::alloc::Global;
 use std::process::Abort;

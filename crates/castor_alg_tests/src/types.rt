@@ -1,16 +1,11 @@
 //! Well typed and ill typed relations.
 
-use crate::context::Context;
-use crate::copies::copy;
-use crate::expr::{Expr, Op};
-use crate::expr_typing::expr_type;
-use crate::rel::{Agg, Bound, Key, Rel};
-use crate::tests::build::{
+use crate::build::{
     MadeExpr, MadeRel, bin, choice, col, concat, cross, dedup, dep_join, excl, filter, group, hash,
     incl, int, join, list, not, one, ord, order, param, scalar, scope, select, table, text, truth,
     two,
 };
-use crate::typing::{TypeError, type_of};
+use castor_alg::{Agg, Bound, Context, Expr, Key, Op, Rel, TypeError, copy, expr_type, type_of};
 use castor_val::{Memory, Text, Ty, Value};
 use sqlite_items::Items;
 use std::alloc::Global;

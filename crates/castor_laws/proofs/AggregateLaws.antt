@@ -15,7 +15,7 @@ use Rattle.castor_alg.specs.declared.rel.Agg.{Agg}
 use Rattle.castor_alg.specs.declared.rel.Agg.TheVariants.{Count, Sum, Min, Max}
 use Rattle.castor_alg.specs.Expression.{put_front, whole}
 use Rattle.castor_alg.specs.Groups.{aggregate, aggregates, best, greater, int_in, lesser, total}
-use Rattle.castor_laws.specs.Permutation.{Permutes, nil, skip, swap, trans}
+use Rattle.castor_alg.specs.Permutation.{Permutes, nil, skip, swap, trans}
 use Rattle.castor_laws.proofs.PermutationLaws.{fold-permutes, length-permutes, map_permutes}
 
 sums_exchange : (a x y : ℤ) → (a +ℤ x) +ℤ y ≡ (a +ℤ y) +ℤ x

@@ -5,18 +5,18 @@ use Rattle.std.specs.List.{flat_map}
 use Rattle.std.proofs.lemmas.List.{append-nil}
 use Rattle.std.proofs.lemmas.List.Elements.{filter-append}
 use Rattle.castor_val.specs.declared.row.Row.{Row}
-use Rattle.castor_val.specs.declared.value.Value.TheVariants.{Bool as Truth}
 use Rattle.castor_val.specs.Values.{no_faults, union}
 use Rattle.castor_val.proofs.FaultLaws.{union-no_faults, union_comm}
 use Rattle.castor_alg.specs.declared.out.Out.{Out}
 use Rattle.castor_alg.specs.Expression.{Answer}
 use Rattle.castor_alg.specs.Rows.{crossed, depjoined, faults_in, filtered, is_true, selected, union_over}
-use Rattle.castor_laws.specs.Partition.{Decides}
-use Rattle.castor_laws.specs.Permutation.{SameUpToOrder}
+use Rattle.castor_laws.specs.Faultless.{HasValue}
+use Rattle.castor_alg.specs.Permutation.{SameUpToOrder}
+use Rattle.castor_laws.proofs.DecidingLaws.{filtered_values}
 use Rattle.castor_laws.proofs.EachLaws.{Each, none, one, each_flat_map, each_from_All, each_map, each_weaker}
 use Rattle.castor_laws.proofs.GroupFilterLaws.{filter-flat_map}
 use Rattle.castor_laws.proofs.LoopLaws.{loops_exchange}
-use Rattle.castor_laws.proofs.OutcomeLaws.{filtered_by, no_more_faults, outcome_by, selected_values}
+use Rattle.castor_laws.proofs.OutcomeLaws.{no_more_faults, outcome_by, selected_values}
 use Rattle.castor_laws.proofs.TotalRelLaws.{no_union_over}
 
 -- the rows of two tables, side by side
@@ -72,49 +72,57 @@ cross_exchanges r s back puts_back =
     record { rows = loops_exchange (λ a b. (a ++ b) ∷ []) r.rows s.rows; faults = refl })
 
 -- a filter of pairs that never faults
-no_faults_on_pairs : (over : Row → Answer) (holds : Row → Row → Bool) (rows others : List Row) → Each (λ a. Each (λ b. over (a ++ b) ≡ Ok (Truth (holds a b))) others) rows → union_over (λ row. faults_in (over row)) (pairs rows others) ≡ no_faults
-no_faults_on_pairs over holds rows others decided =
+no_faults_on_pairs : (over : Row → Answer) (rows others : List Row) → Each (λ a. Each (λ b. faults_in (over (a ++ b)) ≡ no_faults) others) rows → union_over (λ row. faults_in (over row)) (pairs rows others) ≡ no_faults
+no_faults_on_pairs over rows others none_on =
     let quiet = λ (row : Row). faults_in (over row) ≡ no_faults in
     no_union_over (λ row. faults_in (over row))
-    (each_flat_map quiet (λ a. map (λ b. a ++ b) others) (each_weaker _ _ (λ a also. each_map quiet (λ b. a ++ b) (each_weaker _ _ (λ b is. ap faults_in is) also)) decided))
+    (each_flat_map quiet (λ a. map (λ b. a ++ b) others) (each_weaker _ _ (λ a also. each_map quiet (λ b. a ++ b) also) none_on))
 
-all_or_none : (over : Row → Answer) (a : Row) (t : Bool) {others : List Row} → Each (λ b. over (a ++ b) ≡ Ok (Truth t)) others → filter (λ row. is_true (over row)) (map (λ b. a ++ b) others) ≡ cond t (map (λ b. a ++ b) others) []
+all_or_none : (over : Row → Answer) (a : Row) (t : Bool) {others : List Row} → Each (λ b. is_true (over (a ++ b)) ≡ t) others → filter (λ row. is_true (over row)) (map (λ b. a ++ b) others) ≡ cond t (map (λ b. a ++ b) others) []
 all_or_none over a true none = refl
 all_or_none over a false none = refl
-all_or_none over a true (one {x} {xs} first rest) = λ i. cond (is_true (first i)) ((a ++ x) ∷ all_or_none over a true rest i) (all_or_none over a true rest i)
-all_or_none over a false (one {x} {xs} first rest) = λ i. cond (is_true (first i)) ((a ++ x) ∷ all_or_none over a false rest i) (all_or_none over a false rest i)
+all_or_none over a true (one {x} {xs} first rest) = λ i. cond (first i) ((a ++ x) ∷ all_or_none over a true rest i) (all_or_none over a true rest i)
+all_or_none over a false (one {x} {xs} first rest) = λ i. cond (first i) ((a ++ x) ∷ all_or_none over a false rest i) (all_or_none over a false rest i)
 
 map_cond : (f : Row → Row) (x : Row) (xs : List Row) (t : Bool) → cond t (f x ∷ map f xs) (map f xs) ≡ map f (cond t (x ∷ xs) xs)
 map_cond f x xs true = refl
 map_cond f x xs false = refl
 
-those_that_hold : (over : Row → Answer) (a : Row) (holds : Row → Bool) {others : List Row} → Each (λ b. over (a ++ b) ≡ Ok (Truth (holds b))) others → filter (λ row. is_true (over row)) (map (λ b. a ++ b) others) ≡ map (λ b. a ++ b) (filter holds others)
+those_that_hold : (over : Row → Answer) (a : Row) (holds : Row → Bool) {others : List Row} → Each (λ b. is_true (over (a ++ b)) ≡ holds b) others → filter (λ row. is_true (over row)) (map (λ b. a ++ b) others) ≡ map (λ b. a ++ b) (filter holds others)
 those_that_hold over a holds none = refl
 those_that_hold over a holds (one {x} {xs} first rest) =
-    (λ i. cond (is_true (first i)) ((a ++ x) ∷ those_that_hold over a holds rest i) (those_that_hold over a holds rest i)) ∙ map_cond (λ b. a ++ b) x (filter holds xs) (holds x)
+    (λ i. cond (first i) ((a ++ x) ∷ those_that_hold over a holds rest i) (those_that_hold over a holds rest i)) ∙ map_cond (λ b. a ++ b) x (filter holds xs) (holds x)
 
-all_that_hold : (over : Row → Answer) (holds : Row → Bool) (others : List Row) {rows : List Row} → Each (λ a. Each (λ b. over (a ++ b) ≡ Ok (Truth (holds b))) others) rows → filter (λ row. is_true (over row)) (pairs rows others) ≡ pairs rows (filter holds others)
+all_that_hold : (over : Row → Answer) (holds : Row → Bool) (others : List Row) {rows : List Row} → Each (λ a. Each (λ b. is_true (over (a ++ b)) ≡ holds b) others) rows → filter (λ row. is_true (over row)) (pairs rows others) ≡ pairs rows (filter holds others)
 all_that_hold over holds others none = refl
 all_that_hold over holds others (one {x} {xs} first rest) =
     filter-append (λ row. is_true (over row)) (map (λ b. x ++ b) others) (pairs xs others) ∙ (λ i. those_that_hold over x holds first i ++ all_that_hold over holds others rest i)
 
-module _ (r s : Out) (over under : Row → Answer) (holds : Row → Bool) (decides : Decides under holds) where
-  filtered_pairs : (rows : List Row) → filter (λ row. is_true (over row)) (pairs r.rows s.rows) ≡ rows → union_over (λ row. faults_in (over row)) (pairs r.rows s.rows) ≡ no_faults → filtered over (crossed (r ∷ s ∷ [])) ≡ record { rows = rows; faults = union r.faults s.faults }
-  filtered_pairs rows is quiet =
+module _ (r s : Out) (over under : Row → Answer) (values : (row : Row) → HasValue (under row)) where
+  abbrev holds : Row → Bool
+  holds row = is_true (under row)
+
+  -- what the filter says of a pair is what the test says of this row
+  abbrev Says : (Row → Row → Row) → Type 0
+  Says which = Each (λ a. Each (λ b. over (a ++ b) ≡ under (which a b)) s.rows) r.rows
+
+  filtered_pairs : (which : Row → Row → Row) → Says which → (rows : List Row) → filter (λ row. is_true (over row)) (pairs r.rows s.rows) ≡ rows → filtered over (crossed (r ∷ s ∷ [])) ≡ record { rows = rows; faults = union r.faults s.faults }
+  filtered_pairs which says rows is =
+      let quiet = no_faults_on_pairs over r.rows s.rows (each_weaker _ _ (λ a also. each_weaker _ _ (λ b same. ap faults_in (same ∙ (values (which a b)).1)) also) says) in
       ap (filtered over) (crossed_two r s)
       ∙ outcome_by (filtered over (record { rows = pairs r.rows s.rows; faults = union r.faults s.faults })) (record { rows = rows; faults = union r.faults s.faults }) is
       (ap (union (union r.faults s.faults)) quiet ∙ union-no_faults (union r.faults s.faults))
 
-  pub filter_on_left : All (λ a. All (λ b. over (a ++ b) ≡ Ok (Truth (holds a))) s.rows) r.rows → filtered over (crossed (r ∷ s ∷ [])) ≡ crossed (filtered under r ∷ s ∷ [])
+  pub filter_on_left : All (λ a. All (λ b. over (a ++ b) ≡ under a) s.rows) r.rows → filtered over (crossed (r ∷ s ∷ [])) ≡ crossed (filtered under r ∷ s ∷ [])
   filter_on_left all =
-      let decided = each_pair (λ a b. over (a ++ b) ≡ Ok (Truth (holds a))) r.rows s.rows all in
-      filtered_pairs (pairs (filter holds r.rows) s.rows)
-      (filter-flat_map (λ row. is_true (over row)) holds (λ a. map (λ b. a ++ b) s.rows) (each_weaker _ _ (λ a also. all_or_none over a (holds a) also) decided))
-      (no_faults_on_pairs over (λ a b. holds a) r.rows s.rows decided)
-      ∙ sym (ap (λ (o : Out). crossed (o ∷ s ∷ [])) (filtered_by under holds r decides) ∙ crossed_two (record { rows = filter holds r.rows; faults = r.faults }) s)
+      let says = each_pair (λ a b. over (a ++ b) ≡ under a) r.rows s.rows all in
+      filtered_pairs (λ a b. a) says (pairs (filter holds r.rows) s.rows)
+      (filter-flat_map (λ row. is_true (over row)) holds (λ a. map (λ b. a ++ b) s.rows) (each_weaker _ _ (λ a also. all_or_none over a (holds a) (each_weaker _ _ (λ b same. ap is_true same) also)) says))
+      ∙ sym (ap (λ (o : Out). crossed (o ∷ s ∷ [])) (filtered_values under values r) ∙ crossed_two (record { rows = filter holds r.rows; faults = r.faults }) s)
 
-  pub filter_on_right : All (λ a. All (λ b. over (a ++ b) ≡ Ok (Truth (holds b))) s.rows) r.rows → filtered over (crossed (r ∷ s ∷ [])) ≡ crossed (r ∷ filtered under s ∷ [])
+  pub filter_on_right : All (λ a. All (λ b. over (a ++ b) ≡ under b) s.rows) r.rows → filtered over (crossed (r ∷ s ∷ [])) ≡ crossed (r ∷ filtered under s ∷ [])
   filter_on_right all =
-      let decided = each_pair (λ a b. over (a ++ b) ≡ Ok (Truth (holds b))) r.rows s.rows all in
-      filtered_pairs (pairs r.rows (filter holds s.rows)) (all_that_hold over holds s.rows decided) (no_faults_on_pairs over (λ a b. holds b) r.rows s.rows decided)
-      ∙ sym (ap (λ (o : Out). crossed (r ∷ o ∷ [])) (filtered_by under holds s decides) ∙ crossed_two r (record { rows = filter holds s.rows; faults = s.faults }))
+      let says = each_pair (λ a b. over (a ++ b) ≡ under b) r.rows s.rows all in
+      filtered_pairs (λ a b. b) says (pairs r.rows (filter holds s.rows))
+      (all_that_hold over holds s.rows (each_weaker _ _ (λ a also. each_weaker _ _ (λ b same. ap is_true same) also) says))
+      ∙ sym (ap (λ (o : Out). crossed (r ∷ o ∷ [])) (filtered_values under values s) ∙ crossed_two r (record { rows = filter holds s.rows; faults = s.faults }))

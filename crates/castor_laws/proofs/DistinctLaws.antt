@@ -5,7 +5,7 @@ use Rattle.castor_val.specs.declared.row.Row.{Row}
 use Rattle.castor_val.specs.Values.{same_row}
 use Rattle.castor_val.proofs.OrderLaws.{equal_from_same_row, same_row-refl}
 use Rattle.castor_alg.specs.Distinct.{distinct}
-use Rattle.castor_laws.specs.Permutation.{Permutes, nil, skip, swap, trans}
+use Rattle.castor_alg.specs.Permutation.{Permutes, nil, skip, swap, trans}
 use Rattle.castor_laws.proofs.EachLaws.{Each, none, one}
 use Rattle.castor_laws.proofs.PermutationLaws.{filter_permutes, permutes_refl}
 

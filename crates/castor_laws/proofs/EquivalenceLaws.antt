@@ -21,8 +21,9 @@ use Rattle.castor_alg.specs.Indexes.{lower, upper}
 use Rattle.castor_alg.specs.Meaning.{meaning}
 use Rattle.castor_alg.specs.Scopes.{Scopes, bind}
 use Rattle.castor_alg.specs.Typing.{Typed, allowed, are_hash_keys, are_sorting_keys, column_types, common_types, cross_types, each, extended, group_types, is_context, is_of, is_range, type_under, types_of_each, types_under, within_limits}
-use Rattle.castor_laws.specs.Equivalence.{Congruence, EquivalenceLaws, Equivalent, EquivalentUnder}
-use Rattle.castor_laws.specs.Permutation.{SameUpToOrder}
+use Rattle.castor_alg.specs.Equivalence.{Equivalent}
+use Rattle.castor_laws.specs.Congruence.{Congruence, EquivalenceLaws, EquivalentUnder}
+use Rattle.castor_alg.specs.Permutation.{SameUpToOrder}
 use Rattle.castor_laws.proofs.EachLaws.{Each, each_weaker}
 use Rattle.castor_laws.proofs.OperatorLaws.{same_refl, same_sym, same_trans, crossed_keeps, concatenated_keeps, selected_keeps, filtered_keeps, grouped_keeps, sorted_by_keeps, deduped_keeps, depjoined_keeps, hashed_keeps, ranged_keeps}
 use Rattle.castor_laws.proofs.RelClauseLaws.{meaning-Cross, meaning-Concat, meaning-Select, meaning-Filter, meaning-Join, meaning-DepJoin, meaning-Group, meaning-Order, meaning-Dedup, meaning-List, meaning-Hash, meaning-Ord}
@@ -85,15 +86,19 @@ module _ (context : Context) where
   pub same_types_under : (q r : Rel) → Equivalent context q r → types_under q context ≡ types_under r context
   same_types_under q r same = shown (is_context context) (types_under q context) (types_under r context) (within (is_context context) (types_under q context) same.typed) same.same_types
 
-  abbrev SameMeaning : Rel → Rel → Type 0
+  abbrev pub SameMeaning : Rel → Rel → Type 0
   SameMeaning q r = (ts : List Table) (env : Scopes) (p : Row) → Fits context ts env p → SameUpToOrder (meaning q ts env p) (meaning r ts env p)
 
-  from_types : (q r : Rel) → Typed q context → types_under q context ≡ types_under r context → SameMeaning q r → Equivalent context q r
+  pub from_types : (q r : Rel) → Typed q context → types_under q context ≡ types_under r context → SameMeaning q r → Equivalent context q r
   from_types q r typed same_types same = record {
     typed = typed;
     same_types = ap (λ (o : Option (List Ty)). if is_context context then o else None) same_types;
     same_meaning = same;
   }
+
+  -- and so are equal column types and equal meanings, where the first is well typed
+  pub equivalent_where : (q r : Rel) → Typed q context → types_under q context ≡ types_under r context → ((ts : List Table) (env : Scopes) (p : Row) → Fits context ts env p → meaning q ts env p ≡ meaning r ts env p) → Equivalent context q r
+  equivalent_where q r typed same_types same = equivalent_by q r typed (ap (λ (o : Option (List Ty)). if is_context context then o else None) same_types) same
 
   -- an operator over one operand, whose column types are those of the operand's
   over_one : (f : Option (List Ty) → Option (List Ty)) (x y q r : Rel) → types_under x context ≡ f (types_under q context) → types_under y context ≡ f (types_under r context) → Equivalent context q r → Typed x context → SameMeaning x y → Equivalent context x y

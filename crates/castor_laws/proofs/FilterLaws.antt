@@ -6,6 +6,7 @@ use Rattle.castor_val.specs.declared.row.Row.{Row}
 use Rattle.castor_val.specs.declared.value.Value.{Value}
 use Rattle.castor_val.specs.declared.value.Value.TheVariants.{Int, Bool as Truth, Text}
 use Rattle.castor_val.specs.Values.{same_row, union}
+use Rattle.castor_val.proofs.FaultLaws.{union_comm}
 use Rattle.castor_alg.specs.declared.expr.Op.TheVariants.{And}
 use Rattle.castor_alg.specs.declared.out.Out.{Out}
 use Rattle.castor_alg.specs.Distinct.{deduped, distinct}
@@ -17,6 +18,26 @@ use Rattle.castor_laws.proofs.OutcomeLaws.{no_more_faults, outcome_by}
 
 abbrev conjunction : Answer → Answer → Answer
 conjunction x y = both_sides (apply And) x y
+
+truths_commute : (v w : Value) → apply And v w ≡ apply And w v
+truths_commute (Truth true) (Truth true) = refl
+truths_commute (Truth true) (Truth false) = refl
+truths_commute (Truth false) (Truth true) = refl
+truths_commute (Truth false) (Truth false) = refl
+truths_commute (Truth a) (Int y) = refl
+truths_commute (Truth a) (Text t) = refl
+truths_commute (Int x) (Int y) = refl
+truths_commute (Int x) (Truth b) = refl
+truths_commute (Int x) (Text t) = refl
+truths_commute (Text s) (Int y) = refl
+truths_commute (Text s) (Truth b) = refl
+truths_commute (Text s) (Text t) = refl
+
+pub conjunction_commutes : (a b : Answer) → conjunction a b ≡ conjunction b a
+conjunction_commutes (Ok v) (Ok w) = truths_commute v w
+conjunction_commutes (Ok v) (Err g) = refl
+conjunction_commutes (Err f) (Ok w) = refl
+conjunction_commutes (Err f) (Err g) = ap Err (union_comm f g)
 
 -- where the first side has a value, the conjunction is true where both are, and faults as the second does
 conjunction_is_true : (v : Value) (y : Answer) → is_true (conjunction (Ok v) y) ≡ (is_true y && is_true (Ok v))

@@ -149,5 +149,16 @@ other_scope k j bound env reads_it unread read false is = refl
 pub value_ignores : (e : Expr) (k : ℕ) → ValueIgnores e k
 value_ignores e k unread row env bound p = expr_rests e row (bind env k bound) env p (λ j read. other_scope k j bound env (λ m. reads m e) unread read (k == j) refl)
 
+pub values_ignore : (es : List Expr) (k : ℕ) → list_any (reads k) es ≡ false → (row : Row) (env : Scopes) (bound p : Row) → expr_values es row (bind env k bound) p ≡ expr_values es row env p
+values_ignore es k unread row env bound p = exprs_rest es row (bind env k bound) env p (λ j read. other_scope k j bound env (λ m. list_any (reads m) es) unread read (k == j) refl)
+
 pub meaning_ignores : (q : Rel) (k : ℕ) → MeaningIgnores q k
 meaning_ignores q k unfree ts env bound p = rel_rests q ts (bind env k bound) env p (λ j free. other_scope k j bound env (λ m. is_free m q) unfree free (k == j) refl)
+
+-- also under another binder
+pub body_ignores : (q : Rel) (k j : ℕ) → is_free k q ≡ false → (ts : List Table) (env : Scopes) (bound row p : Row) → meaning q ts (bind (bind env k bound) j row) p ≡ meaning q ts (bind env j row) p
+body_ignores q k j unfree ts env bound row p = body_rests j q (rel_rests q) ts (bind env k bound) env p (λ m passing. other_scope k m bound env (λ m. passes m j (is_free m q)) (unpassed (j == k) (is_free k q) unfree) passing (k == m) refl) row
+  where
+    unpassed : (same free : Bool) → free ≡ false → (not same && free) ≡ false
+    unpassed true free is = refl
+    unpassed false free is = is

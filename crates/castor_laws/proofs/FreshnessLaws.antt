@@ -11,8 +11,8 @@ use Rattle.castor_alg.specs.FreeScopes.{bound_reads, free_step, is_free, reads, 
 use Rattle.castor_alg.specs.FreshScope.{bound_scopes, expr_scopes, expr_scopes_step, fresh_scope, one_above, scope_numbers, scope_numbers_step}
 use Rattle.castor_alg.proofs.ExprInduction.{expr_induction, fold-Col, fold-Scope, fold-Param, fold-Lit, fold-Bin, fold-Not, fold-If}
 use Rattle.castor_alg.proofs.RelInduction.{With, relations, rel_induction, fold-Table, fold-Scalar, fold-Cross, fold-Concat, fold-Select, fold-Filter, fold-Join, fold-DepJoin, fold-Group, fold-Order, fold-Dedup, fold-List, fold-Hash, fold-Ord}
-use Rattle.castor_laws.specs.Freshness.{IsFresh}
-use Rattle.castor_laws.proofs.EachLaws.{Each, none, one, All_from_each}
+use Rattle.castor_laws.specs.Freshness.{FreshIfAbove, IsFresh}
+use Rattle.castor_laws.proofs.EachLaws.{Each, none, one, All_from_each, each_from_All}
 
 -- the number is in the list
 abbrev is_in : ℕ → List ℕ → Bool
@@ -155,12 +155,12 @@ unfree : (free in' : Bool) → Implies free in' → in' ≡ false → free ≡ f
 unfree true in' holds is = sym (holds refl) ∙ is
 unfree false in' holds is = refl
 
+pub above_is_fresh : (q : Rel) (k : ℕ) → FreshIfAbove k q
+above_is_fresh q k above =
+    let absent = not_in k (each_from_All (λ j. j < k) (scope_numbers q) above) in
+    record { above = above; absent = absent; unread = unfree (is_free k q) (is_in k (scope_numbers q)) (free_is_in q k) absent }
+
 pub fresh_is_fresh : (q : Rel) (k : ℕ) → fresh_scope q ≡ Some k → IsFresh k q
 fresh_is_fresh q k is =
     let below = subst (λ n. Each (λ j. j < n) (scope_numbers q)) (one_above_is q k (list_any (λ j. j == 4294967295) (scope_numbers q)) is) (each_below 0 (scope_numbers q)) in
-    let absent = not_in k below in
-    record {
-      above = All_from_each (λ j. j < k) (scope_numbers q) below;
-      absent = absent;
-      unread = unfree (is_free k q) (is_in k (scope_numbers q)) (free_is_in q k) absent;
-    }
+    above_is_fresh q k (All_from_each (λ j. j < k) (scope_numbers q) below)

@@ -4,7 +4,6 @@ use Rattle.std.specs.List.{list_all, flat_map}
 use Rattle.std.proofs.lemmas.List.Elements.{filter-append}
 use Rattle.castor_val.specs.declared.fault.Faults.{Faults}
 use Rattle.castor_val.specs.declared.row.Row.{Row}
-use Rattle.castor_val.specs.declared.value.Value.TheVariants.{Bool as Truth}
 use Rattle.castor_val.specs.Values.{no_faults, same_row, union}
 use Rattle.castor_val.proofs.FaultLaws.{union-no_faults}
 use Rattle.castor_val.proofs.OrderLaws.{equal_from_same_row}
@@ -15,12 +14,13 @@ use Rattle.castor_alg.specs.Expression.{Answer}
 use Rattle.castor_alg.specs.Groups.{aggregates, behind_key, group_row, grouped, key_of}
 use Rattle.castor_alg.specs.Rows.{faults_in, filtered, is_true, row_in, selected, union_over}
 use Rattle.castor_alg.specs.Totality.{is_sum}
-use Rattle.castor_laws.specs.Partition.{Decides}
+use Rattle.castor_laws.specs.Faultless.{HasValue}
+use Rattle.castor_laws.proofs.DecidingLaws.{filtered_values}
 use Rattle.castor_laws.proofs.DistinctLaws.{filter_both, same_row-IsEqualityTest}
 use Rattle.castor_laws.proofs.EachLaws.{Each, none, one, each_flat_map, each_weaker}
 use Rattle.castor_laws.proofs.FilterLaws.{filter-distinct}
 use Rattle.castor_laws.proofs.GroupPartLaws.{keys_of_rows}
-use Rattle.castor_laws.proofs.OutcomeLaws.{filtered_by, outcome_by}
+use Rattle.castor_laws.proofs.OutcomeLaws.{outcome_by}
 use Rattle.castor_laws.proofs.PartLaws.{each_passes}
 use Rattle.castor_laws.proofs.TotalGroupLaws.{Occurs, but_sums, keys_occur, passing}
 use Rattle.castor_laws.proofs.TotalRelLaws.{no_union_over}
@@ -54,12 +54,19 @@ and_false : (b : Bool) → (b && false) ≡ false
 and_false true = refl
 and_false false = refl
 
-module _ (k : ℕ) (ks : List ℕ) (aggs : List Agg) (r : Out) (over under : Row → Answer) (holds : Row → Bool)
+module _ (k : ℕ) (ks : List ℕ) (aggs : List Agg) (r : Out) (over under : Row → Answer)
     (sumless : list_all (λ a. not (is_sum a)) aggs ≡ true)
-    (decides_over : (of values : Row) → over (key_of (k ∷ ks) of ++ values) ≡ Ok (Truth (holds (key_of (k ∷ ks) of))))
-    (decides_under : Decides under (λ row. holds (key_of (k ∷ ks) row))) where
+    (decides : (row : Row) → HasValue (under row))
+    (says : (of values : Row) → over (key_of (k ∷ ks) of ++ values) ≡ under of) where
   abbrev keys : Row → Row
   keys row = key_of (k ∷ ks) row
+
+  -- what the filter says of every group with a key
+  abbrev of_key : Row → Answer
+  of_key key = over (key ++ [])
+
+  abbrev holds : Row → Bool
+  holds key = is_true (of_key key)
 
   abbrev distinct_keys : List Row
   distinct_keys = distinct same_row (map keys r.rows)
@@ -75,28 +82,29 @@ module _ (k : ℕ) (ks : List ℕ) (aggs : List Agg) (r : Out) (over under : Row
 
   -- each group has a row, on which the filter says what it says of the key
   abbrev HasRow : Row → Type 0
-  HasRow key = (values : Row) × (row_of key ≡ Ok (key ++ values)) × (over (key ++ values) ≡ Ok (Truth (holds key)))
+  HasRow key = (values : Row) × (row_of key ≡ Ok (key ++ values)) × (over (key ++ values) ≡ of_key key) × HasValue (of_key key)
 
   row_at : (key : Row) → Occurs (k ∷ ks) r.rows key × ((of : Row) × (key ≡ keys of)) → HasRow key
   row_at key (occurs, (of, is)) =
       let group = passing (λ row. same_row (keys row) key) r.rows occurs in
       let values = but_sums aggs sumless group.0 group.1 in
-      (values.0, ap (behind_key key) (ap (aggregates aggs) group.2 ∙ values.1), subst (λ key. over (key ++ values.0) ≡ Ok (Truth (holds key))) (sym is) (decides_over of values.0))
+      let decided = subst (λ key. (over (key ++ values.0) ≡ of_key key) × HasValue (of_key key)) (sym is) (says of values.0 ∙ sym (says of []), subst HasValue (sym (says of [])) (decides of)) in
+      (values.0, ap (behind_key key) (ap (aggregates aggs) group.2 ∙ values.1), decided.0, decided.1)
 
   all_have_rows : Each HasRow distinct_keys
   all_have_rows = each_weaker _ HasRow row_at (each_both _ _ (keys_occur (k ∷ ks) r.rows) (keys_of_rows keys r.rows))
 
   passes : (key : Row) → HasRow key → filter (λ row. is_true (over row)) (row_in (row_of key)) ≡ cond (holds key) (row_in (row_of key)) []
-  passes key (values, is, decided) =
+  passes key (values, is, said, value) =
       ap (λ a. filter (λ row. is_true (over row)) (row_in a)) is
-      ∙ ap (λ a. cond (is_true a) ((key ++ values) ∷ []) []) decided
+      ∙ ap (λ a. cond (is_true a) ((key ++ values) ∷ []) []) said
       ∙ ap (λ a. cond (holds key) (row_in a) []) (sym is)
 
   no_fault : (key : Row) → HasRow key → faults_in (row_of key) ≡ no_faults
-  no_fault key (values, is, decided) = ap faults_in is
+  no_fault key (values, is, said, value) = ap faults_in is
 
   over_faults_not : (key : Row) → HasRow key → Each (λ row. faults_in (over row) ≡ no_faults) (row_in (row_of key))
-  over_faults_not key (values, is, decided) = subst (λ a. Each (λ row. faults_in (over row) ≡ no_faults) (row_in a)) (sym is) (one (ap faults_in decided) none)
+  over_faults_not key (values, is, said, value) = subst (λ a. Each (λ row. faults_in (over row) ≡ no_faults) (row_in a)) (sym is) (one (ap faults_in (said ∙ value.1)) none)
 
   -- the rows that have a key that passes all pass
   passes_too : (key : Row) → holds key ≡ true → (row : Row) (b : Bool) → same_row (keys row) key ≡ b → (holds (keys row) && b) ≡ b
@@ -107,6 +115,15 @@ module _ (k : ℕ) (ks : List ℕ) (aggs : List Agg) (r : Out) (over under : Row
   same_group key passing =
       ap (λ rows. behind_key key (aggregates aggs rows))
       ((λ i. filter (λ row. sym (passes_too key passing row (same_row (keys row) key) refl) i) r.rows) ∙ filter_both (λ row. same_row (keys row) key) (λ row. holds (keys row)) r.rows)
+
+  abbrev passed : Out
+  passed = record { rows = filter (λ row. is_true (under row)) r.rows; faults = r.faults }
+
+  abbrev kept_out : Out
+  kept_out = record { rows = kept; faults = r.faults }
+
+  passed_is_kept : passed ≡ kept_out
+  passed_is_kept = outcome_by passed kept_out (λ i. filter (λ row. is_true (sym (says row []) i)) r.rows) refl
 
   kept_keys : distinct same_row (map keys kept) ≡ filter holds distinct_keys
   kept_keys = ap (distinct same_row) (map-filter keys holds r.rows) ∙ sym (filter-distinct same_row same_row-IsEqualityTest holds (map keys r.rows))
@@ -135,4 +152,4 @@ module _ (k : ℕ) (ks : List ℕ) (aggs : List Agg) (r : Out) (over under : Row
       outcome_by (filtered over before) after same_rows
       (ap (union before.faults) no_faults_over ∙ union-no_faults before.faults ∙ ap (union r.faults) (no_faults_before ∙ sym no_faults_after))
       ∙ ap (λ key_rows. selected row_of_kept (record { rows = key_rows; faults = r.faults })) (sym kept_keys)
-      ∙ ap (grouped (k ∷ ks) aggs) (sym (filtered_by under (λ row. holds (keys row)) r decides_under))
+      ∙ ap (grouped (k ∷ ks) aggs) (sym (filtered_values under decides r ∙ passed_is_kept))

@@ -8,9 +8,10 @@ use Rattle.castor_alg.specs.declared.out.Out.{Out}
 use Rattle.castor_alg.specs.Expression.{Answer}
 use Rattle.castor_alg.specs.Indexes.{found, hashed}
 use Rattle.castor_alg.specs.Rows.{filtered, selected}
-use Rattle.castor_laws.specs.Partition.{Decides}
+use Rattle.castor_laws.specs.Deciding.{DecidesOn}
+use Rattle.castor_laws.proofs.DecidingLaws.{filtered_where}
 use Rattle.castor_laws.proofs.DistinctLaws.{same_row-IsEqualityTest, test_sym}
-use Rattle.castor_laws.proofs.OutcomeLaws.{filtered_by, outcome_by, selected_values}
+use Rattle.castor_laws.proofs.OutcomeLaws.{outcome_by, selected_values}
 
 clash : {P : Type 0} → true ≡ false → P
 clash is = cc
@@ -37,9 +38,9 @@ module _ (keys : Row → Row) (key : Row) (r : Out) where
   found_is body under true is = outcome_by with_key (found body all_keys key true) (sym (ap (λ (o : Out). o.rows) under)) (sym (ap (λ (o : Out). union r.faults o.faults) under ∙ union_self r.faults))
   found_is body under false is = outcome_by with_key (found body all_keys key false) (none_kept keys key r.rows is) refl
 
-  pub filter_is_look_up : (test : Row → Answer) (body : Row → Out) → Decides test (λ row. same_row (keys row) key) → body key ≡ filtered test r → filtered test r ≡ hashed body (selected (λ row. Ok (keys row)) r) (Ok key)
+  pub filter_is_look_up : (test : Row → Answer) (body : Row → Out) → DecidesOn r.rows test (λ row. same_row (keys row) key) → body key ≡ filtered test r → filtered test r ≡ hashed body (selected (λ row. Ok (keys row)) r) (Ok key)
   filter_is_look_up test body decides under =
-      let kept = filtered_by test (λ row. same_row (keys row) key) r decides in
+      let kept = filtered_where test (λ row. same_row (keys row) key) r decides in
       kept
       ∙ found_is body (under ∙ kept) (list_any (same_row key) (map keys r.rows)) refl
       ∙ ap (λ source. hashed body source (Ok key)) (sym (selected_values keys r))

@@ -8,7 +8,7 @@ use Rattle.castor_val.specs.Values.{union}
 use Rattle.castor_val.proofs.FaultLaws.{union_assoc}
 use Rattle.castor_alg.specs.declared.out.Out.{Out}
 use Rattle.castor_alg.specs.Rows.{depjoined, union_over}
-use Rattle.castor_laws.specs.Permutation.{Permutes, nil, trans}
+use Rattle.castor_alg.specs.Permutation.{Permutes, nil, trans}
 use Rattle.castor_laws.proofs.OutcomeLaws.{outcome_by}
 use Rattle.castor_laws.proofs.PermutationLaws.{append_permutes, exchanged, permutes_sym}
 

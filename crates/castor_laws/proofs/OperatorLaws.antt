@@ -16,7 +16,7 @@ use Rattle.castor_alg.specs.Indexes.{found, hashed, ranged, ranged_within, refus
 use Rattle.castor_alg.specs.Rows.{combined, concatenated, crossed, depjoined, faults_in, filtered, is_true, row_in, selected, union_over}
 use Rattle.castor_alg.specs.Sorting.{by_keys, inserted, row_lt, sorted, sorted_by}
 use Rattle.castor_laws.specs.Operators.{OperatorsKeep}
-use Rattle.castor_laws.specs.Permutation.{Permutes, nil, skip, swap, trans, SameUpToOrder}
+use Rattle.castor_alg.specs.Permutation.{Permutes, nil, skip, swap, trans, SameUpToOrder}
 use Rattle.castor_laws.proofs.AggregateLaws.{aggregates-permutes}
 use Rattle.castor_laws.proofs.DistinctLaws.{distinct_rows_permute, each_at_key}
 use Rattle.castor_laws.proofs.EachLaws.{Each, none, one, each_all, each_distinct, each_filter, each_from_All, each_weaker}

@@ -9,7 +9,6 @@ use Rattle.castor_val.proofs.FaultLaws.{union-no_faults}
 use Rattle.castor_alg.specs.declared.out.Out.{Out}
 use Rattle.castor_alg.specs.Expression.{Answer}
 use Rattle.castor_alg.specs.Rows.{depjoined, filtered, selected, union_over}
-use Rattle.castor_laws.specs.Partition.{Decides}
 use Rattle.castor_laws.proofs.EachLaws.{Each, none, one, each_all}
 use Rattle.castor_laws.proofs.TotalRelLaws.{no_union_over}
 
@@ -32,12 +31,9 @@ alone f (x ∷ xs) = ap (λ rows. f x ∷ rows) (alone f xs)
 pub selected_values : (f : Row → Row) (r : Out) → selected (λ row. Ok (f row)) r ≡ record { rows = map f r.rows; faults = r.faults }
 selected_values f r = outcome_by _ _ (alone f r.rows) (no_more_faults r.faults r.rows)
 
-tested : (holds : Row → Bool) (r : Out) → filtered (λ row. Ok (Truth (holds row))) r ≡ record { rows = filter holds r.rows; faults = r.faults }
+-- a filter by a test that is given as what holds
+pub tested : (holds : Row → Bool) (r : Out) → filtered (λ row. Ok (Truth (holds row))) r ≡ record { rows = filter holds r.rows; faults = r.faults }
 tested holds r = outcome_by _ _ refl (no_more_faults r.faults r.rows)
-
--- a filter by a test that never faults
-pub filtered_by : (test : Row → Answer) (holds : Row → Bool) (r : Out) → Decides test holds → filtered test r ≡ record { rows = filter holds r.rows; faults = r.faults }
-filtered_by test holds r decides = (λ i. filtered (λ row. decides row i) r) ∙ tested holds r
 
 -- bodies that are equal under each row of the source
 module _ (body other : Row → Out) where

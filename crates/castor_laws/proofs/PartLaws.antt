@@ -4,7 +4,7 @@ use Rattle.std.specs.List.{list_any, flat_map}
 use Rattle.std.proofs.lemmas.Bool.{or_right}
 use Rattle.castor_alg.specs.Distinct.{distinct}
 use Rattle.castor_alg.specs.Sorting.{sorted}
-use Rattle.castor_laws.specs.Permutation.{Permutes, nil, skip, trans}
+use Rattle.castor_alg.specs.Permutation.{Permutes, nil, skip, trans}
 use Rattle.castor_laws.proofs.DistinctLaws.{IsEqualityTest, filter_both, test_sym}
 use Rattle.castor_laws.proofs.EachLaws.{Each, none, one, each_weaker}
 use Rattle.castor_laws.proofs.OperatorLaws.{sorted_permutes}

@@ -6,7 +6,7 @@ use Rattle.std.proofs.lemmas.List.Sorted.{IsPermutation-refl, IsPermutation-cons
 use Rattle.std.proofs.Common.{arith}
 use Rattle.castor_val.specs.declared.fault.Faults.{Faults}
 use Rattle.castor_alg.specs.Rows.{union_over}
-use Rattle.castor_laws.specs.Permutation.{Permutes, nil, skip, swap, trans}
+use Rattle.castor_alg.specs.Permutation.{Permutes, nil, skip, swap, trans}
 use Rattle.castor_laws.proofs.EachLaws.{Each, none, one}
 
 pub permutes_refl : {X : Type 0} (xs : List X) → Permutes xs xs

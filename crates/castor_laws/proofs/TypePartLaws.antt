@@ -1,5 +1,6 @@
 -- What is so of the parts of what has a type.
 use Rattle.std.proofs.Common.{◌≡◌, List, [], ◌∷◌, Bool, true, false, refl, Option, Some, None, option_and_then, option_map, if◌then◌else◌}
+use Rattle.std.specs.Prelude.{is_some}
 use Rattle.std.proofs.lemmas.Bool.{and_parts}
 use Rattle.castor_val.specs.declared.value.Ty.{Ty}
 use Rattle.castor_val.specs.declared.value.Ty.TheVariants.{Int, Bool as Truth, Text}
@@ -8,6 +9,14 @@ use Rattle.castor_alg.specs.Typing.{agreed, allowed, are_columns, is_of, same_ty
 pub and_then_parts : {X Y : Type 0} (f : X → Option Y) (o : Option X) (y : Y) → option_and_then f o ≡ Some y → (x : X) × (o ≡ Some x) × (f x ≡ Some y)
 and_then_parts f None y is = cc
 and_then_parts f (Some x) y is = (x, refl, is)
+
+pub and_then-and_then : {X Y Z : Type 0} (f : Y → Option Z) (g : X → Option Y) (h : X → Option Z) → ((x : X) → option_and_then f (g x) ≡ h x) → (o : Option X) → option_and_then f (option_and_then g o) ≡ option_and_then h o
+and_then-and_then f g h is None = refl
+and_then-and_then f g h is (Some x) = is x
+
+pub and_then-if : {X Y : Type 0} (f : X → Option Y) (condition : Bool) (o : Option X) → option_and_then f (if condition then o else None) ≡ (if condition then option_and_then f o else None)
+and_then-if f true o = refl
+and_then-if f false o = refl
 
 pub map_parts : {X Y : Type 0} (f : X → Y) (o : Option X) (y : Y) → option_map f o ≡ Some y → (x : X) × (o ≡ Some x) × (f x ≡ y)
 map_parts f None y is = cc
@@ -25,6 +34,12 @@ allowed_parts false x y is = cc
 pub if_parts : {X : Type 0} (condition : Bool) (o : Option X) (x : X) → (if condition then o else None) ≡ Some x → (condition ≡ true) × (o ≡ Some x)
 if_parts true o x is = (refl, is)
 if_parts false o x is = cc
+
+-- what is well typed stands under a context within limits, and has types
+pub well_typed_parts : {X : Type 0} (b : Bool) (o : Option X) → is_some (if b then o else None) ≡ true → (b ≡ true) × ((x : X) × (o ≡ Some x))
+well_typed_parts true None is = cc
+well_typed_parts true (Some x) is = (refl, (x, refl))
+well_typed_parts false o is = cc
 
 pub limited_parts : (o : Option (List Ty)) (types : List Ty) → within_limits o ≡ Some types → o ≡ Some types
 limited_parts None types is = cc

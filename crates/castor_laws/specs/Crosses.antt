@@ -1,13 +1,12 @@
 -- Combinations of two operands.
-use Rattle.std.specs.Prelude.{◌≡◌, [], ◌∷◌, ◌++◌, All, Bool, Ok}
+use Rattle.std.specs.Prelude.{◌≡◌, [], ◌∷◌, ◌++◌, All, Ok}
 use Rattle.castor_val.specs.declared.row.Row.{Row}
-use Rattle.castor_val.specs.declared.value.Value.TheVariants.{Bool as Truth}
 use Rattle.castor_val.specs.Values.{no_faults}
 use Rattle.castor_alg.specs.declared.out.Out.{Out}
 use Rattle.castor_alg.specs.Expression.{Answer}
 use Rattle.castor_alg.specs.Rows.{crossed, depjoined, filtered, selected}
-use Rattle.castor_laws.specs.Partition.{Decides}
-use Rattle.castor_laws.specs.Permutation.{SameUpToOrder}
+use Rattle.castor_laws.specs.Faultless.{HasValue}
+use Rattle.castor_alg.specs.Permutation.{SameUpToOrder}
 
 -- combinations are a dependent join, where the second operand has no faults
 abbrev pub CrossIsDependent : Type 0
@@ -17,10 +16,10 @@ CrossIsDependent = (r s : Out) → s.faults ≡ no_faults → crossed (r ∷ s �
 abbrev pub CrossExchanges : Type 0
 CrossExchanges = (r s : Out) (back : Row → Row) → All (λ b. All (λ a. back (b ++ a) ≡ a ++ b) r.rows) s.rows → SameUpToOrder (crossed (r ∷ s ∷ [])) (selected (λ row. Ok (back row)) (crossed (s ∷ r ∷ [])))
 
--- a filter by the values of the first operand, which never faults, may go to that operand
+-- a filter that says of each pair of rows what a test that never faults says of the first may go to that operand
 abbrev pub FilterOnLeft : Type 0
-FilterOnLeft = (r s : Out) (over under : Row → Answer) (holds : Row → Bool) → Decides under holds → All (λ a. All (λ b. over (a ++ b) ≡ Ok (Truth (holds a))) s.rows) r.rows → filtered over (crossed (r ∷ s ∷ [])) ≡ crossed (filtered under r ∷ s ∷ [])
+FilterOnLeft = (r s : Out) (over under : Row → Answer) → ((row : Row) → HasValue (under row)) → All (λ a. All (λ b. over (a ++ b) ≡ under a) s.rows) r.rows → filtered over (crossed (r ∷ s ∷ [])) ≡ crossed (filtered under r ∷ s ∷ [])
 
--- likewise by those of the second operand
+-- likewise for the second
 abbrev pub FilterOnRight : Type 0
-FilterOnRight = (r s : Out) (over under : Row → Answer) (holds : Row → Bool) → Decides under holds → All (λ a. All (λ b. over (a ++ b) ≡ Ok (Truth (holds b))) s.rows) r.rows → filtered over (crossed (r ∷ s ∷ [])) ≡ crossed (r ∷ filtered under s ∷ [])
+FilterOnRight = (r s : Out) (over under : Row → Answer) → ((row : Row) → HasValue (under row)) → All (λ a. All (λ b. over (a ++ b) ≡ under b) s.rows) r.rows → filtered over (crossed (r ∷ s ∷ [])) ≡ crossed (r ∷ filtered under s ∷ [])

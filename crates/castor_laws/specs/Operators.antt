@@ -13,7 +13,7 @@ use Rattle.castor_alg.specs.Groups.{grouped}
 use Rattle.castor_alg.specs.Indexes.{hashed, ranged}
 use Rattle.castor_alg.specs.Rows.{concatenated, crossed, depjoined, filtered, selected}
 use Rattle.castor_alg.specs.Sorting.{sorted_by}
-use Rattle.castor_laws.specs.Permutation.{SameUpToOrder}
+use Rattle.castor_alg.specs.Permutation.{SameUpToOrder}
 
 -- the bodies of a binder are the same up to order under each row of its source
 abbrev pub SameUnder : (Row → Out) → (Row → Out) → Out → Type 0

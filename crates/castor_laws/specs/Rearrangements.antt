@@ -6,21 +6,26 @@ use Rattle.castor_val.specs.declared.value.Value.{Value}
 use Rattle.castor_alg.specs.declared.out.Out.{Out}
 use Rattle.castor_alg.specs.declared.rel.Key.{Key}
 use Rattle.castor_alg.specs.Distinct.{deduped}
-use Rattle.castor_alg.specs.Expression.{Answer, negation}
+use Rattle.castor_alg.specs.declared.expr.Op.TheVariants.{And}
+use Rattle.castor_alg.specs.Expression.{Answer, apply, both_sides, negation}
 use Rattle.castor_alg.specs.Indexes.{hashed, ranged}
 use Rattle.castor_alg.specs.Rows.{concatenated, depjoined, filtered, selected}
 use Rattle.castor_alg.specs.Sorting.{sorted_by}
 use Rattle.castor_laws.specs.Faultless.{HasValue}
-use Rattle.castor_laws.specs.Partition.{Decides}
-use Rattle.castor_laws.specs.Permutation.{SameUpToOrder}
+use Rattle.castor_laws.specs.Deciding.{DecidesOn}
+use Rattle.castor_alg.specs.Permutation.{SameUpToOrder}
 
 -- two filters change places, where neither condition faults
 abbrev pub FiltersExchange : Type 0
 FiltersExchange = (f g : Row → Answer) (r : Out) → ((row : Row) → HasValue (f row)) → ((row : Row) → HasValue (g row)) → filtered f (filtered g r) ≡ filtered g (filtered f r)
 
--- the rows on which a test is true and those on which its negation is are all rows, up to order
+-- the sides of a conjunction change places
+abbrev pub ConjunctionCommutes : Type 0
+ConjunctionCommutes = (a b : Answer) → both_sides (apply And) a b ≡ both_sides (apply And) b a
+
+-- the rows on which a test is true and those on which its negation is are all rows, up to order, where on each of them the test is true or false
 abbrev pub SplitsByTest : Type 0
-SplitsByTest = (test : Row → Answer) (holds : Row → Bool) (r : Out) → Decides test holds → SameUpToOrder r (concatenated (filtered test r ∷ filtered (λ row. negation (test row)) r ∷ []))
+SplitsByTest = (test : Row → Answer) (holds : Row → Bool) (r : Out) → DecidesOn r.rows test holds → SameUpToOrder r (concatenated (filtered test r ∷ filtered (λ row. negation (test row)) r ∷ []))
 
 -- what comes after a projection that never faults may come before it, over the projected row
 pub record AfterProjection (g : Row → Row) (r : Out) : Type 0 where

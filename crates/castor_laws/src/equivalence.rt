@@ -1,7 +1,7 @@
 //! Relations that are equivalent under a context.
 
 ghost use Rattle.castor_alg.specs.declared.context.Context.{Context};
-ghost use Rattle.castor_laws.specs.Equivalence.{Congruence, EquivalenceLaws};
+ghost use Rattle.castor_laws.specs.Congruence.{Congruence, EquivalenceLaws};
 
 /// Under each context equivalence is reflexive on what is well typed, symmetric and transitive.
 pub fn equivalence_laws()

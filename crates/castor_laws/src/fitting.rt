@@ -3,6 +3,7 @@
 ghost use Rattle.castor_alg.specs.declared.context.Context.{Context};
 ghost use Rattle.castor_alg.specs.declared.expr.Expr.{Expr};
 ghost use Rattle.castor_alg.specs.declared.rel.Rel.{Rel};
+ghost use Rattle.castor_alg.specs.ColumnCount.{CountsColumns};
 ghost use Rattle.castor_laws.specs.Fitting.{HasColumns, RowsFit, ValueFits};
 
 /// The value of a well-typed expression is of its type, or it faults.
@@ -18,4 +19,9 @@ pub fn typed_rel_gives_fitting_rows()
 /// A well-typed relation has 1 to 64 columns.
 pub fn typed_rel_has_columns()
     ensures { (q : Rel) (context : Context) → HasColumns q context }
+{}
+
+/// A well-typed relation has as many columns as column types.
+pub fn columns_are_counted()
+    ensures { (q : Rel) (context : Context) → CountsColumns q context }
 {}

@@ -1,13 +1,13 @@
-//! Loops over rows, one in another.
+//! Dependent joins: loops over rows, one in another.
 
-ghost use Rattle.castor_laws.specs.Loops.{DependentJoinsRegroup, LoopsExchange};
-
-/// Two nested loops over rows give the same rows, up to order, if they change places.
-pub fn loops_exchange()
-    ensures { LoopsExchange }
-{}
+ghost use Rattle.castor_laws.specs.Loops.{DependentJoinsRegroup, FilterGoesToSource};
 
 /// Two dependent joins may be regrouped: the same rows in the same order, and the same faults.
 pub fn dependent_joins_regroup()
     ensures { DependentJoinsRegroup }
+{}
+
+/// A filter of each body by the row of the source may go to the source, where nothing faults.
+pub fn filter_goes_to_source()
+    ensures { FilterGoesToSource }
 {}

@@ -6,7 +6,7 @@ ghost use Rattle.castor_alg.specs.declared.out.Out.{Out};
 ghost use Rattle.castor_alg.specs.declared.rel.Key.{Key};
 ghost use Rattle.castor_alg.specs.Sorting.{sorted_by};
 ghost use Rattle.castor_laws.specs.Operators.{OperatorsKeep};
-ghost use Rattle.castor_laws.specs.Permutation.{Permutes, SameUpToOrder};
+ghost use Rattle.castor_alg.specs.Permutation.{Permutes, SameUpToOrder};
 
 /// Rows in another order are a permutation, as std says it.
 pub fn permuted_is_permutation()

@@ -1,7 +1,7 @@
 //! Filters and groups over rows that are parted by keys: what turns them into indexes.
 
 ghost use Rattle.castor_laws.specs.Partition.{FilterByBoth, FilterIsLookUp, FilterIsRange};
-ghost use Rattle.castor_laws.specs.Partition.{FilterOfDistinct, FilterUnderGroups, GroupsAreParts};
+ghost use Rattle.castor_laws.specs.Partition.{FilterOfDistinct, GroupsAreParts};
 
 /// A filter by `a and b` is a filter by `a` over one by `b`, where `a` never faults.
 pub fn filter_by_both()
@@ -23,11 +23,6 @@ pub fn filter_is_look_up()
 /// order and the same faults.
 pub fn groups_are_parts()
     ensures { GroupsAreParts }
-{}
-
-/// A filter by key columns may come before the grouping, where no aggregate is a sum.
-pub fn filter_under_groups()
-    ensures { FilterUnderGroups }
 {}
 
 /// A filter by bounds is a look-up in an ordered index, with the same rows up to order and the same

@@ -6,12 +6,18 @@ ghost use Rattle.castor_val.specs.declared.row.Row.{Row};
 ghost use Rattle.castor_alg.specs.declared.out.Out.{Out};
 ghost use Rattle.castor_alg.specs.Expression.{Answer};
 ghost use Rattle.castor_alg.specs.Rows.{filtered, selected};
-ghost use Rattle.castor_laws.specs.Rearrangements.{AfterProjection, DistinctTwice, FiltersExchange};
+ghost use Rattle.castor_laws.specs.Rearrangements.{AfterProjection, ConjunctionCommutes};
+ghost use Rattle.castor_laws.specs.Rearrangements.{DistinctTwice, FiltersExchange};
 ghost use Rattle.castor_laws.specs.Rearrangements.{MovesInto, SortsUnderFilter, SplitsByTest};
 
 /// Two filters change places, where neither condition faults.
 pub fn filters_exchange()
     ensures { FiltersExchange }
+{}
+
+/// The sides of a conjunction change places: the same value and the same faults.
+pub fn conjunction_commutes()
+    ensures { ConjunctionCommutes }
 {}
 
 /// A relation is split by a condition that never faults and its negation.

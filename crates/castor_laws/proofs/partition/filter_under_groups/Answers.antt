@@ -1,5 +1,0 @@
-use Rattle.castor_laws.proofs.GroupFilterLaws.{filter_under_groups}
-use Rattle.castor_laws.proofs.partition.filter_under_groups.Goals as goal
-
-pub returns : goal.returns
-returns c = filter_under_groups

@@ -1,6 +1,7 @@
 -- What holds of each part of a parsed file.
 use Rattle.std.specs.Prelude.{◌≡◌, Bool, true, false, ◌&&◌, nat_le, List, [], ◌∷◌, length, Option, Some, None}
 use Rattle.std.specs.List.{list_all}
+use Rattle.castor_val.specs.Limits.{most_name_bytes, most_text_bytes}
 use Rattle.castor_val.specs.declared.value.Ty.{Ty}
 use Rattle.castor_val.specs.declared.value.Ty.TheVariants as ty
 use Rattle.castor_val.specs.declared.value.Value.{Value}
@@ -27,7 +28,7 @@ use Rattle.castor_parse.specs.Parsed.{IsSmall}
 
 -- a name of at most 64 bytes
 abbrev pub is_word : Word → Bool
-is_word w = is_name w.text && nat_le (length w.text) 64
+is_word w = is_name w.text && nat_le (length w.text) most_name_bytes
 
 abbrev pub is_alias : Option Word → Bool
 is_alias None = true
@@ -43,7 +44,7 @@ is_col (col.Number n) = true
 abbrev pub is_literal : Ty → Value → Bool
 is_literal ty.Int (value.Int z) = true
 is_literal ty.Bool (value.Bool b) = true
-is_literal ty.Text (value.Text z) = nat_le (length z) 65535
+is_literal ty.Text (value.Text z) = nat_le (length z) most_text_bytes
 is_literal t v = false
 
 abbrev pub expr_formed_step : PExpr-F Bool → Bool

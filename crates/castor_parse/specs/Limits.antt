@@ -1,15 +1,16 @@
 -- The limits of tokens.
 use Rattle.std.specs.Prelude.{ℕ, ◌+◌, ◌-◌, Bool, true, ◌&&◌, nat_le, [], ◌∷◌, length}
 use Rattle.std.specs.List.{list_all}
+use Rattle.castor_val.specs.Limits.{most_name_bytes, most_text_bytes}
 use Rattle.castor_parse.specs.declared.token.Keyword.TheVariants.{Not}
 use Rattle.castor_parse.specs.declared.token.Symbol.TheVariants.{OpenParen, CloseParen, OpenBracket, CloseBracket}
 use Rattle.castor_parse.specs.Lexemes.{Lexeme, name, int, text, keyword, symbol, Lexemes}
 
 -- a name has at most 64 bytes, and a text literal at most 65,535 bytes after its quotes are undone
 abbrev pub is_short : Lexeme → Bool
-is_short (name w) = nat_le (length w.text) 64
+is_short (name w) = nat_le (length w.text) most_name_bytes
 is_short (int n) = true
-is_short (text z) = nat_le (length z) 65535
+is_short (text z) = nat_le (length z) most_text_bytes
 is_short (keyword k) = true
 is_short (symbol s) = true
 

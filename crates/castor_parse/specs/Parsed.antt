@@ -1,5 +1,6 @@
 -- What a query file is parsed to, and why a text isn't.
 use Rattle.std.specs.Prelude.{◌≡◌, ◌<◌, ◌≤◌, ℕ, true, false, List, map, length, Some, None, IsUtf8}
+use Rattle.castor_val.specs.Limits.{most_depth, most_query_nodes, most_source_bytes}
 use Rattle.castor_parse.specs.declared.token.Token.{Token}
 use Rattle.castor_parse.specs.declared.tree.Decl.{Decl}
 use Rattle.castor_parse.specs.declared.tree.PRel.{PRel}
@@ -12,21 +13,17 @@ use Rattle.castor_parse.specs.Limits.{are_within_limits}
 use Rattle.castor_parse.specs.Grammar.{IsFile}
 use Rattle.castor_parse.specs.Sizes.{nodes, depth}
 
--- the greatest length of a text in bytes
-abbrev pub text_limit : ℕ
-text_limit = 1048576
-
 -- a text that is cut into these tokens, all of them within the limits
 pub record AreTokens (text : Bytes) (ts : List Token) : Type 0 where
-  pub short : length text ≤ text_limit
+  pub short : length text ≤ most_source_bytes
   pub utf8 : IsUtf8 text
   pub cut : tokens_of text ≡ Some ts
   pub within : are_within_limits (lexemes text ts) ≡ true
 
 -- a tree that isn't too large: at most 4,096 nodes, and at most 64 deep
 pub record IsSmall (query : PRel) : Type 0 where
-  pub nodes : nodes query ≤ 4096
-  pub depth : depth query ≤ 64
+  pub nodes : nodes query ≤ most_query_nodes
+  pub depth : depth query ≤ most_depth
 
 -- the file has the spans of the text's tokens, and the grammar derives its declarations and its query from them
 pub record IsParsed (text : Bytes) (file : File) : Type 0 where
@@ -39,13 +36,13 @@ pub record IsParsed (text : Bytes) (file : File) : Type 0 where
 -- Why a text is too large: it has too many bytes; or it is cut into tokens of which one passes a limit; or its
 -- tree has too many nodes or is too deep.
 pub data IsTooLarge (text : Bytes) : Type 0 where
-  by_bytes : text_limit < length text → IsTooLarge text
-  by_tokens : (ts : List Token) → length text ≤ text_limit → IsUtf8 text → tokens_of text ≡ Some ts → are_within_limits (lexemes text ts) ≡ false → IsTooLarge text
+  by_bytes : most_source_bytes < length text → IsTooLarge text
+  by_tokens : (ts : List Token) → length text ≤ most_source_bytes → IsUtf8 text → tokens_of text ≡ Some ts → are_within_limits (lexemes text ts) ≡ false → IsTooLarge text
   by_tree : (ts : List Token) (decls : List Decl) (query : PRel) → AreTokens text ts → IsFile (lexemes text ts) decls query → (IsSmall query → ⊥) → IsTooLarge text
 
 -- Why a text has a syntax fault: it isn't cut into tokens; or the grammar derives no file from its tokens.
 pub data HasSyntaxFault (text : Bytes) : Type 0 where
-  by_cut : length text ≤ text_limit → IsUtf8 text → tokens_of text ≡ None → HasSyntaxFault text
+  by_cut : length text ≤ most_source_bytes → IsUtf8 text → tokens_of text ≡ None → HasSyntaxFault text
   by_grammar : (ts : List Token) → AreTokens text ts → ((decls : List Decl) (query : PRel) → IsFile (lexemes text ts) decls query → ⊥) → HasSyntaxFault text
 
 -- what the tokens of a text make
@@ -60,11 +57,11 @@ pub record IsSmallFile (ts : List Token) (left : ℕ) (ds : List Decl) (q : PRel
   pub decls : file.decls ≡ ds
   pub query : file.query ≡ q
   pub some_left : 0 < left
-  pub shallow : depth q ≤ 64
+  pub shallow : depth q ≤ most_depth
 
 -- a tree that left nothing of the parser's budget of nodes, or is too deep
 abbrev pub IsLarge : ℕ → PRel → ParseError → Type 0
-IsLarge left q refusal.TooLarge = (0 < left) × (depth q ≤ 64) → ⊥
+IsLarge left q refusal.TooLarge = (0 < left) × (depth q ≤ most_depth) → ⊥
 IsLarge left q refusal.NotUtf8 = ⊥
 IsLarge left q (refusal.Syntax at) = ⊥
 IsLarge left q refusal.Memory = Unit {0}
@@ -79,7 +76,7 @@ IsUnread text ts refusal.Memory = Unit {0}
 -- why a text isn't parsed; want of memory says nothing of it
 abbrev pub IsRefused : Bytes → ParseError → Type 0
 IsRefused text refusal.TooLarge = IsTooLarge text
-IsRefused text refusal.NotUtf8 = (length text ≤ text_limit) × (IsUtf8 text → ⊥)
+IsRefused text refusal.NotUtf8 = (length text ≤ most_source_bytes) × (IsUtf8 text → ⊥)
 IsRefused text (refusal.Syntax at) = HasSyntaxFault text × (at ≤ length text)
 IsRefused text refusal.Memory = Unit {0}
 

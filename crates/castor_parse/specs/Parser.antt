@@ -3,6 +3,7 @@
 -- tree in the place of each node.
 use Rattle.std.specs.Prelude.{◌≡◌, ℕ, zero, suc, ◌+◌, ◌-◌, pos, ◌-ℤ◌, Bool, true, false, if◌then◌else◌, nat_lt, nat_le, List, [], ◌∷◌, ◌++◌, length, drop, Option, Some, None, Result, Ok, Err}
 use denote.Enum.Bare.{sameb}
+use Rattle.castor_val.specs.Limits.{most_query_nodes}
 use Rattle.castor_val.specs.declared.value.Ty.{Ty}
 use Rattle.castor_val.specs.declared.value.Ty.TheVariants as ty
 use Rattle.castor_val.specs.declared.value.Value.TheVariants as value
@@ -46,7 +47,7 @@ at ts n = record { rest = ts; budget = n }
 -- One more than the number of nodes that a tree has at most: the nodes that are made are shown where some of the
 -- budget is left behind them.
 abbrev pub node_budget : ℕ
-node_budget = 4097
+node_budget = most_query_nodes + 1
 
 -- what k nodes leave of a budget
 abbrev pub spend : ℕ → ℕ → ℕ

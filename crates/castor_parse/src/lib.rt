@@ -16,6 +16,3 @@ pub use cut::{CutError, tokens};
 pub use query::{ParseError, parse};
 pub use token::{Keyword, Kind, Span, Symbol, Token};
 pub use tree::{Decl, File, Item, PAgg, PBound, PCol, PExpr, PRel, Word};
-
-#[cfg(test)]
-mod tests;

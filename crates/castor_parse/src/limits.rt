@@ -7,10 +7,7 @@ ghost use Rattle.castor_parse.specs.Lexemes.{lexeme_of, lexemes, undoubled};
 ghost use Rattle.castor_parse.specs.Limits as spec;
 
 use crate::token::{Keyword, Kind, Symbol, Token};
-
-const MAX_NAME: u64 = 64;
-
-const MAX_TEXT: usize = 65_535;
+use castor_val::{MAX_NAME, MAX_TEXT};
 
 const MAX_OPEN: u64 = 256;
 
@@ -42,7 +39,7 @@ fn is_short(text: &[u8], token: Token) -> bool
 {
     let (from, to) = (token.span.from, token.span.to);
     match token.kind {
-        Kind::Name => to - from <= MAX_NAME,
+        Kind::Name => to - from <= MAX_NAME as u64,
         Kind::Text => undoubled_len(&text[from as usize + 1..to as usize - 1]) <= MAX_TEXT,
         Kind::Int | Kind::Keyword(_) | Kind::Symbol(_) => true,
     }

@@ -8,7 +8,7 @@ ghost use Rattle.castor_parse.specs.Parser.{Reads};
 
 use crate::token::{Keyword, Kind, Span, Symbol, Token};
 use crate::tree::Word;
-use castor_val::{Memory, Text};
+use castor_val::{MAX_QUERY_NODES, Memory, Text};
 use std::alloc::{AllocError, AllocFailed, Global};
 use std::marker::Model;
 
@@ -53,9 +53,6 @@ impl From<Memory> for Stop {
     }
 }
 
-/// How many nodes a tree has at most.
-const MAX_NODES: u64 = 4096;
-
 /// A parser over the tokens of a text. Each rule of the grammar is a method, which reads from the next
 /// token on, and leaves the parser at the token that it can't read where it refuses.
 ///
@@ -94,7 +91,7 @@ impl<'a> Parser<'a> {
             alloc,
             text,
             tokens,
-            budget: MAX_NODES + 1,
+            budget: MAX_QUERY_NODES + 1,
         }
     }
 

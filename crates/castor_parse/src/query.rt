@@ -13,14 +13,9 @@ use crate::limits::are_within_limits;
 use crate::parser::{Parser, Stop};
 use crate::token::{Span, Token};
 use crate::tree::{Decl, File, PRel};
+use castor_val::{MAX_DEPTH, MAX_SOURCE_BYTES};
 use sqlite_items::Items;
 use std::alloc::{AllocError, AllocFailed, Global};
-
-/// The greatest length of a text in bytes.
-const MAX_BYTES: usize = 1_048_576;
-
-/// How deep a tree is at most.
-const MAX_DEPTH: u64 = 64;
 
 /// Why a text isn't parsed.
 #[derive(Clone, Copy, Debug, PartialEq, Eq)]
@@ -131,7 +126,7 @@ pub fn parse(alloc: Global, text: &[u8]) -> Result<File, ParseError>
     // No other tree is derived from the tokens of a text.
     ensures one { HasOneTree text.now }
 {
-    if text.len() > MAX_BYTES {
+    if text.len() as u64 > MAX_SOURCE_BYTES {
         return Err(ParseError::TooLarge);
     }
     let Ok(text) = std::str::from_utf8(text) else {

@@ -9,26 +9,28 @@ use Rattle.castor_alg.specs.Typing.{are_columns, column_types, is_context, types
 use Rattle.castor_parse.specs.declared.tree.File.{File}
 use Rattle.castor_parse.specs.Formed.{IsFormed}
 use Rattle.castor_parse.specs.Sizes as names
-use Rattle.castor_schema.proofs.ClosedLaws.{none_read}
-use Rattle.castor_schema.proofs.Contexts.{context_in, table_types}
-use Rattle.castor_schema.proofs.DeclarationLaws.{AreLimited, declared-limited}
-use Rattle.castor_schema.proofs.FoundLaws.{AreKnown, IsFound}
-use Rattle.castor_schema.proofs.NamedOutputs.{are_named}
-use Rattle.castor_schema.proofs.NamedRelations.{AreDeclaredNamed, declared_named, plain_named, relation_named}
-use Rattle.castor_schema.proofs.Outcomes.{Through, left_true, ok_same, right_true, through}
-use Rattle.castor_schema.proofs.RelationLaws.{relation-found}
+use Rattle.castor_names.proofs.Outcomes.{Through, left_true, ok_same, right_true, through}
+use Rattle.castor_names.specs.Declarations.{declared}
+use Rattle.castor_names.specs.Names.{plain_columns, types_of}
+use Rattle.castor_names.specs.Turns.{and_then}
+use Rattle.castor_names.specs.NameForms.{are_distinct, is_table}
+use Rattle.castor_names.specs.declared.table.Declared.{Declared}
+use Rattle.castor_names.specs.declared.column.NamedColumn.{NamedColumn}
+use Rattle.castor_names.specs.declared.declarations.Declarations.{Declarations}
+use Rattle.castor_names.specs.declared.error.SchemaError.{SchemaError}
+use Rattle.castor_operators.specs.Relations.{relation}
+use Rattle.castor_operators.specs.declared.found.Found.{Found}
+use Rattle.castor_schema_laws.proofs.ClosedLaws.{none_read}
+use Rattle.castor_schema_laws.proofs.Contexts.{context_in, table_types}
+use Rattle.castor_schema_laws.proofs.DeclarationLaws.{AreLimited, declared-limited}
+use Rattle.castor_schema_laws.proofs.FoundLaws.{AreKnown, IsFound}
+use Rattle.castor_schema_laws.proofs.NamedOutputs.{are_named}
+use Rattle.castor_schema_laws.proofs.NamedRelations.{AreDeclaredNamed, declared_named, plain_named, relation_named}
+use Rattle.castor_schema_laws.proofs.RelationLaws.{relation-found}
 use Rattle.castor_schema.specs.Check.{checked}
-use Rattle.castor_schema.specs.Declarations.{declared}
-use Rattle.castor_schema.specs.Names.{plain_columns, types_of}
-use Rattle.castor_schema.specs.Relations.{relation}
-use Rattle.castor_schema.specs.Turns.{and_then}
-use Rattle.castor_schema.specs.WellTyped.{AreNamed, AreWithinLimits, IsAsLarge, IsClosed, IsWellTyped, are_distinct, column_types_of, context_of, is_table}
+use Rattle.castor_val.specs.Columns.{types_of as column_types_of}
+use Rattle.castor_schema.specs.WellTyped.{AreNamed, AreWithinLimits, IsAsLarge, IsClosed, IsWellTyped, query_context}
 use Rattle.castor_schema.specs.declared.checked.Checked.{Checked}
-use Rattle.castor_schema.specs.declared.checked.Declared.{Declared}
-use Rattle.castor_schema.specs.declared.column.NamedColumn.{NamedColumn}
-use Rattle.castor_schema.specs.declared.declarations.Declarations.{Declarations}
-use Rattle.castor_schema.specs.declared.error.SchemaError.{SchemaError}
-use Rattle.castor_schema.specs.declared.found.Found.{Found}
 
 plain-types : (columns : List NamedColumn) → column_types_of (plain_columns columns) ≡ types_of columns
 plain-types [] = refl

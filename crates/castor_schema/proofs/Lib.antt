@@ -1,17 +1,1 @@
 pub mod CheckLaws
-pub mod ClosedLaws
-pub mod Contexts
-pub mod DeclarationLaws
-pub mod ExprInduction
-pub mod ExpressionLaws
-pub mod FoundLaws
-pub mod Gathered
-pub mod GroupLaws
-pub mod NameLaws
-pub mod NamedOutputs
-pub mod NamedRelations
-pub mod Outcomes
-pub mod OutputLaws
-pub mod RelInduction
-pub mod RelationAnswers
-pub mod RelationLaws

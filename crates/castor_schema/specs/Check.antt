@@ -1,14 +1,14 @@
 -- What a query file means, or the first refusal.
-use Rattle.std.specs.Prelude.{ℕ, List, [], Result, Ok, Err}
+use Rattle.std.specs.Prelude.{[], Result, Ok}
 use Rattle.castor_parse.specs.declared.tree.File.{File}
-use Rattle.castor_schema.specs.Declarations.{declared}
-use Rattle.castor_schema.specs.Names.{plain_columns}
-use Rattle.castor_schema.specs.Relations.{relation}
-use Rattle.castor_schema.specs.Turns.{and_then}
+use Rattle.castor_names.specs.Declarations.{declared}
+use Rattle.castor_names.specs.Names.{plain_columns}
+use Rattle.castor_names.specs.Turns.{and_then}
+use Rattle.castor_names.specs.declared.declarations.Declarations.{Declarations}
+use Rattle.castor_names.specs.declared.error.SchemaError.{SchemaError}
+use Rattle.castor_operators.specs.Relations.{relation}
+use Rattle.castor_operators.specs.declared.found.Found.{Found}
 use Rattle.castor_schema.specs.declared.checked.Checked.{Checked}
-use Rattle.castor_schema.specs.declared.declarations.Declarations.{Declarations}
-use Rattle.castor_schema.specs.declared.error.SchemaError.{SchemaError}
-use Rattle.castor_schema.specs.declared.found.Found.{Found}
 
 -- the declarations in their order, then the query, in which no scope is in force and binders are numbered from 0
 abbrev pub checked : File → Result Checked SchemaError

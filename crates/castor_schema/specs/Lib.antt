@@ -1,9 +1,2 @@
 pub mod Check
-pub mod Declarations
-pub mod Expressions
-pub mod Names
-pub mod Outputs
-pub mod Relations
-pub mod Scopes
-pub mod Turns
 pub mod WellTyped

@@ -1,15 +1,9 @@
 //! What a query file means.
 
 use castor_alg::Rel;
-use castor_val::{Column, Text};
+use castor_names::Declared;
+use castor_val::Column;
 use sqlite_items::Items;
-
-/// A declared table.
-#[derive(Drop)]
-pub struct Declared {
-    pub name: Text,
-    pub columns: Items<Column>,
-}
 
 /// A checked query file: its tables and parameters in the order of their declarations, the columns of
 /// the answer, and the query, in which tables, parameters, scopes and columns have their numbers.

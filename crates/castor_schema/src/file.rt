@@ -5,15 +5,13 @@ ghost use Rattle.castor_val.specs.Gives.{Gives};
 ghost use Rattle.castor_parse.specs.Formed.{IsFormed};
 ghost use Rattle.castor_schema.specs.Check.{checked};
 ghost use Rattle.castor_schema.specs.WellTyped.{AreNamed, AreWithinLimits, IsAsLarge, IsClosed, IsWellTyped};
-ghost use Rattle.castor_schema.specs.declared.error.SchemaError.TheVariants as error;
+ghost use Rattle.castor_names.specs.declared.error.SchemaError.TheVariants as error;
 
 use crate::checked::Checked;
-use crate::column::plain_columns;
-use crate::declarations::declared;
-use crate::error::SchemaError;
-use crate::relation::relation;
-use crate::scopes::Scopes;
+use castor_names::declarations::declared;
+use castor_names::{SchemaError, Scopes, plain_columns};
 use castor_parse::File;
+use castor_relations::relation::relation;
 use std::alloc::Global;
 
 fn checked(alloc: Global, file: &File) -> Result<Checked, SchemaError>

@@ -23,7 +23,7 @@ returns-then-not-are_within_limits-clause-err c =
     let limit_text = c.as_bytes-in-Ok-tokens.ensures.value ∙ is_text in
     let cut : tokens_of text ≡ Some items = subst (λ z. tokens_of z ≡ Some items) cut_text c.in-Ok-tokens.ensures.ok in
     let past : are_within_limits (lexemes text items) ≡ false = (λ i. are_within_limits (lexemes (sym limit_text i) (sym c.as_slice.ensures.value i))) ∙ sym c.are_within_limits.ensures ∙ c.if-not-are_within_limits.true in
-    by_tokens items c.if-text-gt-MAX_BYTES.false c.in-Ok.ensures.cases.1 cut past
+    by_tokens items c.if-text-gt-MAX_SOURCE_BYTES.false c.in-Ok.ensures.cases.1 cut past
 
 pub returns-else-not-are_within_limits-clause-err : goal.returns-else-not-are_within_limits-clause-err
 returns-else-not-are_within_limits-clause-err c =
@@ -34,7 +34,7 @@ returns-else-not-are_within_limits-clause-err c =
     let limit_text = c.as_bytes-in-Ok-tokens.ensures.value ∙ is_text in
     let cut : tokens_of text ≡ Some items = subst (λ z. tokens_of z ≡ Some items) cut_text c.in-Ok-tokens.ensures.ok in
     let within : are_within_limits (lexemes text items) ≡ true = (λ i. are_within_limits (lexemes (sym limit_text i) (sym c.as_slice.ensures.value i))) ∙ sym c.are_within_limits.ensures ∙ c.if-not-are_within_limits.false in
-    let tokens : AreTokens text items = record { short = c.if-text-gt-MAX_BYTES.false; utf8 = c.in-Ok.ensures.cases.1; cut = cut; within = within } in
+    let tokens : AreTokens text items = record { short = c.if-text-gt-MAX_SOURCE_BYTES.false; utf8 = c.in-Ok.ensures.cases.1; cut = cut; within = within } in
     IfErr-weaker c.file.result (IsUnread c.in-Ok.text.now c.as_slice-in-Ok-tokens.result.now) (IsRefused text) (λ y h. refused text items y tokens (subst (λ ts. IsUnread text ts y) c.as_slice-in-Ok-tokens.ensures.value (subst (λ z. IsUnread z c.as_slice-in-Ok-tokens.result.now y) is_text h))) c.file.ensures.err
 
 pub returns-else-not-are_within_limits-clause-order : goal.returns-else-not-are_within_limits-clause-order

@@ -1,0 +1,5 @@
+pub mod Declarations
+pub mod NameForms
+pub mod Names
+pub mod Scopes
+pub mod Turns

@@ -1,7 +1,0 @@
-use Rattle.std.proofs.Common.{◌≡◌, drop}
-use Rattle.castor_schema.specs.Declarations.{columns_declared, with_column}
-use Rattle.castor_schema.specs.Turns.{in_order}
-use Rattle.castor_schema.proofs.declarations.columns_declared.Given as goal
-
-abbrev pub invariant-loop-word : goal.invariant-loop-word
-invariant-loop-word l = columns_declared l.columns ≡ in_order with_column l.found (drop l.word-index l.columns)

@@ -1,7 +1,0 @@
-use Rattle.std.proofs.Common.{◌≡◌, drop}
-use Rattle.castor_schema.specs.Declarations.{declared, with_declaration}
-use Rattle.castor_schema.specs.Turns.{in_order}
-use Rattle.castor_schema.proofs.declarations.declared.Given as goal
-
-abbrev pub invariant-loop-decl : goal.invariant-loop-decl
-invariant-loop-decl l = declared l.decls ≡ in_order with_declaration l.found (drop l.decl-index l.decls)

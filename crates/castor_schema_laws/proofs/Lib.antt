@@ -1,0 +1,13 @@
+pub mod ClosedLaws
+pub mod Contexts
+pub mod DeclarationLaws
+pub mod ExprInduction
+pub mod ExpressionLaws
+pub mod FoundLaws
+pub mod Gathered
+pub mod GroupLaws
+pub mod NameLaws
+pub mod NamedOutputs
+pub mod NamedRelations
+pub mod OutputLaws
+pub mod RelationLaws

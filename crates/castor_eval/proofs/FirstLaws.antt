@@ -5,7 +5,8 @@ use Rattle.castor_val.specs.declared.row.Row.{Row}
 use Rattle.castor_val.specs.Values.{same_row}
 use Rattle.castor_alg.specs.Distinct.{distinct}
 use Rattle.castor_eval.specs.Marks.{marked}
-use Rattle.castor_eval.proofs.DistinctLaws.{row_test, distinct-push}
+use Rattle.castor_laws.proofs.DistinctLaws.{same_row-IsEqualityTest}
+use Rattle.castor_eval.proofs.DistinctLaws.{distinct-push}
 use Rattle.castor_eval.proofs.MarkLaws.{marked-both}
 use Rattle.castor_eval.proofs.ViewLaws.{holds}
 
@@ -16,7 +17,7 @@ taken xs i x h at = take_more xs i x h ∙ ap (λ y. take i xs ++ y ∷ []) (sym
 pub seen-more : (seen seen' xs : List Row) (i : ℕ) (x : Row) → i < length xs → x ≡ get_or xs i x → seen ≡ distinct same_row (take i xs) → seen' ≡ cond (holds x seen) seen (seen ++ x ∷ []) → seen' ≡ distinct same_row (take (i + 1) xs)
 seen-more seen seen' xs i x h at s n =
     n ∙ ap (λ ds. cond (holds x ds) ds (ds ++ x ∷ [])) s
-    ∙ sym (distinct-push same_row row_test (take i xs) x)
+    ∙ sym (distinct-push same_row same_row-IsEqualityTest (take i xs) x)
     ∙ ap (distinct same_row) (sym (taken xs i x h at))
 
 new_at : (b : Bool) (ds : List Row) (x : Row) → ds ++ cond (not b) (x ∷ []) [] ≡ cond b ds (ds ++ x ∷ [])
@@ -32,7 +33,7 @@ marks-more marks marks' seen xs i x is_new h at s m len new e =
     ∙ (λ j. m j ++ cond (new j) (x ∷ []) [])
     ∙ ap (λ ds. distinct same_row (take i xs) ++ cond (not (holds x ds)) (x ∷ []) []) s
     ∙ new_at (holds x (distinct same_row (take i xs))) (distinct same_row (take i xs)) x
-    ∙ sym (distinct-push same_row row_test (take i xs) x)
+    ∙ sym (distinct-push same_row same_row-IsEqualityTest (take i xs) x)
     ∙ ap (distinct same_row) (sym (taken xs i x h at))
 
 pub length-more : (marks marks' : List Bool) (i : ℕ) (b : Bool) → length marks ≡ i → marks' ≡ marks ++ b ∷ [] → length marks' ≡ i + 1

@@ -6,7 +6,8 @@ use Rattle.std.proofs.lemmas.Bool.{cases_Bool}
 use Rattle.std.proofs.lemmas.List.{map-append, length-map}
 use Rattle.std.proofs.lemmas.List.Elements.{filter-append}
 use Rattle.castor_alg.specs.Distinct.{distinct}
-use Rattle.castor_eval.proofs.DistinctLaws.{IsTest, test_sym, without, has, has-without}
+use Rattle.castor_laws.proofs.DistinctLaws.{IsEqualityTest, test_sym}
+use Rattle.castor_eval.proofs.DistinctLaws.{without, has, has-without}
 
 or_false : (a b : Bool) → (a || b) ≡ false → (a ≡ false) × (b ≡ false)
 or_false true b h = cc
@@ -25,7 +26,7 @@ abbrev pub opened_for : {R : Type 0} → List (List R) → Bool → List (List R
 opened_for members true = members ++ [] ∷ []
 opened_for members false = members
 
-module _ {X R : Type 0} (same : X → X → Bool) (t : IsTest same) (key : R → X) where
+module _ {X R : Type 0} (same : X → X → Bool) (t : IsEqualityTest same) (key : R → X) where
   abbrev there : X → List X → Bool
   there k ks = has same t k ks
 

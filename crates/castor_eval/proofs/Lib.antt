@@ -7,7 +7,5 @@ pub mod GroupLaws
 pub mod GroupedRows
 pub mod LoopLaws
 pub mod MarkLaws
-pub mod MeaningLaws
 pub mod ProductLaws
-pub mod SortLaws
 pub mod ViewLaws

@@ -4,8 +4,8 @@ use Rattle.std.specs.Ordering.{is_lt, is_le, is_gt, is_ge}
 use Rattle.castor_val.specs.declared.value.Value.{Value}
 use Rattle.castor_val.specs.declared.fault.Faults.{Faults}
 use Rattle.castor_val.specs.Values.{value_cmp, value_of}
-use Rattle.castor_eval.specs.declared.index.Limit.{Limit}
-use Rattle.castor_eval.specs.declared.index.Limit.TheVariants.{Any, Incl, Excl}
+use Rattle.castor_eval.specs.declared.limits.Limit.{Limit}
+use Rattle.castor_eval.specs.declared.limits.Limit.TheVariants.{Any, Incl, Excl}
 
 -- whether a lower limit lets a value in
 abbrev pub above : Limit → Value → Bool

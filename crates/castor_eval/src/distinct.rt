@@ -13,7 +13,7 @@ use castor_val::{Memory, Row};
 use indexmap::IndexSet;
 use std::alloc::Global;
 
-/// The distinct rows, the first of equal rows. Linear in the rows and their values, on average; moves
+/// `dedup`: the distinct rows, the first of equal rows. Linear in the rows and their values, on average; moves
 /// rows that were made, and copies those of a table that it keeps.
 pub fn dedup<'t>(alloc: Global, from: Part<'t>) -> Result<Part<'t>, Memory>
     ensures { IfOk result (λ part. out_of part ≡ deduped (out_of from.entry)) }

@@ -24,7 +24,7 @@ pub struct Groups<'a> {
     pub members: Vec<Vec<&'a Row>>,
 }
 
-/// For each group its key and its aggregates, where none of them faults. Linear in the rows, on
+/// `groupby`: for each group its key and its aggregates, where none of them faults. Linear in the rows, on
 /// average, and in the aggregates over each.
 pub fn group<'t>(alloc: Global, ks: &[u32], aggs: &[Agg], from: Part) -> Result<Part<'t>, Memory>
     ensures { IfOk result (λ part. out_of part ≡ grouped ks.now aggs.now (out_of from.entry)) }

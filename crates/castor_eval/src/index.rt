@@ -3,18 +3,16 @@
 ghost use Rattle.std.specs.Prelude.{◌≡◌, ◌&&◌, IfOk, OnOk, false, map, slice_index_or};
 ghost use Rattle.std.specs.Prelude.{filter as passing};
 ghost use Rattle.std.specs.List.{list_any};
-ghost use Rattle.castor_val.specs.Values.{column, same_row, value_of};
+ghost use Rattle.castor_val.specs.Values.{column, same_row};
 ghost use Rattle.castor_alg.specs.Distinct.{distinct};
-ghost use Rattle.castor_alg.specs.Indexes.{lower, upper};
-ghost use Rattle.castor_alg.specs.Scopes.{scopes_of};
 ghost use Rattle.castor_alg.specs.Sorting.{row_lt, sorted};
-ghost use Rattle.castor_eval.specs.Ranges.{above, below, lower_of, upper_of};
+ghost use Rattle.castor_eval.specs.Ranges.{above, below};
 
 use crate::distinct::first_marks;
 use crate::keep::is_marked;
-use crate::order::{cell_at, compare_values};
-use castor_alg::{Bound, Env, value};
-use castor_val::{Cell, Faults, Memory, Row, compare};
+use crate::limits::{Limit, is_above, is_below};
+use crate::order::cell_at;
+use castor_val::{Memory, Row, compare_values};
 use std::alloc::Global;
 
 /// Whether a row equals the key. Linear in the rows.
@@ -27,78 +25,6 @@ pub fn has_row(rows: &[Row], key: &Row) -> bool
         }
     }
     false
-}
-
-/// One end of a range, with its value.
-#[derive(Clone, Copy)]
-pub enum Limit<'a> {
-    Any,
-    Incl(Cell<'a>),
-    Excl(Cell<'a>),
-}
-
-/// The value of a lower bound.
-pub fn lower_limit<'e, 'a>(
-    bound: &'a Bound,
-    env: &Env<'e, 'a>,
-    params: &[Cell<'a>],
-) -> Result<Limit<'a>, Faults>
-    ensures { lower_of result ≡ lower bound.now (scopes_of env.now) (map value_of params.now) }
-{
-    match bound {
-        Bound::Any => Ok(Limit::Any),
-        Bound::Incl(e) => match value(e, &[], env, params) {
-            Ok(cell) => Ok(Limit::Incl(cell)),
-            Err(faults) => Err(faults),
-        },
-        Bound::Excl(e) => match value(e, &[], env, params) {
-            Ok(cell) => Ok(Limit::Excl(cell)),
-            Err(faults) => Err(faults),
-        },
-    }
-}
-
-/// The value of an upper bound.
-pub fn upper_limit<'e, 'a>(
-    bound: &'a Bound,
-    env: &Env<'e, 'a>,
-    params: &[Cell<'a>],
-) -> Result<Limit<'a>, Faults>
-    ensures { upper_of result ≡ upper bound.now (scopes_of env.now) (map value_of params.now) }
-{
-    match bound {
-        Bound::Any => Ok(Limit::Any),
-        Bound::Incl(e) => match value(e, &[], env, params) {
-            Ok(cell) => Ok(Limit::Incl(cell)),
-            Err(faults) => Err(faults),
-        },
-        Bound::Excl(e) => match value(e, &[], env, params) {
-            Ok(cell) => Ok(Limit::Excl(cell)),
-            Err(faults) => Err(faults),
-        },
-    }
-}
-
-// Whether a value is within a lower limit.
-fn is_above(cell: Cell, from: &Limit) -> bool
-    ensures { result ≡ above from.now (value_of cell.entry) }
-{
-    match *from {
-        Limit::Any => true,
-        Limit::Incl(limit) => compare(cell, limit).is_ge(),
-        Limit::Excl(limit) => compare(cell, limit).is_gt(),
-    }
-}
-
-// Whether a value is within an upper limit.
-fn is_below(cell: Cell, to: &Limit) -> bool
-    ensures { result ≡ below to.now (value_of cell.entry) }
-{
-    match *to {
-        Limit::Any => true,
-        Limit::Incl(limit) => compare(cell, limit).is_le(),
-        Limit::Excl(limit) => compare(cell, limit).is_lt(),
-    }
 }
 
 /// The distinct rows whose first value is within the limits, ascending. Linear in the rows on average,

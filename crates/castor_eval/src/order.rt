@@ -1,19 +1,19 @@
-//! Rows sorted stably by keys, and the order of whole rows.
+//! Rows sorted stably by keys.
 
 ghost use Rattle.std.specs.Prelude.{◌≡◌, IfOk, OnOk};
 ghost use Rattle.std.specs.Ordering.{is_lt};
-ghost use Rattle.castor_val.specs.Values.{column, row_cmp, value_of};
+ghost use Rattle.castor_val.specs.Values.{column, value_of};
 ghost use Rattle.castor_alg.specs.Sorting.{by_key, by_keys, sorted, sorted_by};
 ghost use Rattle.castor_eval.specs.Parts.{out_of};
 
 use crate::part::{Part, into_rows};
 use castor_alg::Key;
-use castor_val::{Cell, Memory, Row, Value, compare};
+use castor_val::{Cell, Memory, Row, compare};
 use std::alloc::Global;
 use std::borrow::CowSlice;
 use std::cmp::Ordering;
 
-/// The rows sorted by the keys, where equal rows stay in their order. Of the order n log n in the rows;
+/// `orderby`: the rows sorted by the keys, where equal rows stay in their order. Of the order n log n in the rows;
 /// moves rows that were made, and copies those of a table.
 pub fn order<'t>(alloc: Global, keys: &[Key], from: Part<'t>) -> Result<Part<'t>, Memory>
     ensures { IfOk result (λ part. out_of part ≡ sorted_by keys.now (out_of from.entry)) }
@@ -65,26 +65,5 @@ pub fn cell_at(row: &Row, at: u32) -> Cell<'_>
     match row.as_slice().get(at as usize) {
         Some(value) => value.cell(),
         None => Cell::Bool(false),
-    }
-}
-
-/// How two rows are ordered: by the first value in which they differ, a row before its extensions.
-/// Linear in the shorter row and its texts.
-pub fn compare_values(a: &[Value], b: &[Value]) -> Ordering
-    ensures { result ≡ row_cmp a.now b.now }
-{
-    match a {
-        [] => match b {
-            [] => Ordering::Equal,
-            [_, ..] => Ordering::Less,
-        },
-        [x, xs @ ..] => match b {
-            [] => Ordering::Greater,
-            [y, ys @ ..] => match compare(x.cell(), y.cell()) {
-                Ordering::Less => Ordering::Less,
-                Ordering::Equal => compare_values(xs, ys),
-                Ordering::Greater => Ordering::Greater,
-            },
-        },
     }
 }

@@ -19,7 +19,7 @@ pub struct Part<'t> {
 
 impl<'t> Part<'t> {
     /// The rows of a table.
-    pub fn stored(rows: &'t [Row]) -> Part<'t>
+    pub fn of_table(rows: &'t [Row]) -> Part<'t>
         ensures { out_of result ≡ record { rows = rows.now; faults = no_faults } }
     {
         Part {

@@ -1,4 +1,5 @@
-//! Tests of the evaluator against a plain one, which computes what relations mean by nested loops.
+//! Tests of the evaluator: worked relations, and generated ones against a plain evaluator, which computes what relations
+//! mean by nested loops.
 #![tactic(auto)]
 
 #[cfg(test)]
@@ -9,3 +10,5 @@ mod expressions;
 mod relations;
 #[cfg(test)]
 mod tables;
+#[cfg(test)]
+mod worked;

@@ -1,4 +1,3 @@
-pub mod ColumnCountLaws
-pub mod ScalarLaws
 pub mod ScopeColumnLaws
+pub mod ScopeRowLaws
 pub mod StoreLaws

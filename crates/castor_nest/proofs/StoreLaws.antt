@@ -20,7 +20,7 @@ use Rattle.castor_alg.specs.Rows.{depjoined, single}
 use Rattle.castor_alg.specs.Scopes.{Scopes, bind}
 use Rattle.castor_alg.specs.Typing.{Typed, allowed, are_columns, column_types, cross_types, each, extended, is_context, scope_types, types_under, with_both, within_limits}
 use Rattle.castor_alg.proofs.TypingLaws.{scope_types-extended}
-use Rattle.castor_laws.specs.Equivalence.{Equivalent}
+use Rattle.castor_alg.specs.Equivalence.{Equivalent}
 use Rattle.castor_laws.proofs.ColumnCountLaws.{has_columns}
 use Rattle.castor_laws.proofs.EachLaws.{each_weaker}
 use Rattle.castor_laws.proofs.EquivalenceLaws.{equivalent_by}
@@ -29,12 +29,13 @@ use Rattle.castor_laws.proofs.RelClauseLaws.{meaning-List}
 use Rattle.castor_laws.proofs.RowFitLaws.{rows_fit_types}
 use Rattle.castor_laws.proofs.TypeClauseLaws.{type_under-Scope, types_under-Cross, types_under-List, types_under-Scalar}
 use Rattle.castor_laws.proofs.TypePartLaws.{if_parts}
-use Rattle.castor_nest.specs.ColumnCount.{column_count}
+use Rattle.castor_alg.specs.ColumnCount.{column_count}
 use Rattle.castor_nest.specs.ScopeColumns.{scope_columns, scope_columns_from}
 use Rattle.castor_nest.specs.Store.{store_row, stored}
-use Rattle.castor_nest.specs.declared.rule_error.RuleError.TheVariants.{BadArgument}
-use Rattle.castor_nest.proofs.ColumnCountLaws.{columns_counted}
-use Rattle.castor_nest.proofs.ScalarLaws.{scalars_beside, scope_is_row}
+use Rattle.castor_alg.specs.declared.rule_error.RuleError.TheVariants.{BadArgument}
+use Rattle.castor_laws.proofs.CountedColumnLaws.{columns_counted}
+use Rattle.castor_laws.proofs.ScalarLaws.{scalars_beside}
+use Rattle.castor_nest.proofs.ScopeRowLaws.{scope_is_row}
 
 -- scalars of the columns of a scope have its column types
 module _ (context : Context) (k : ℕ) (columns : List Ty) (is : scope_types context.scopes k ≡ Some columns) where

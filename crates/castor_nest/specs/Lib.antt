@@ -1,3 +1,2 @@
-pub mod ColumnCount
 pub mod ScopeColumns
 pub mod Store

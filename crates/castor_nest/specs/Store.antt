@@ -5,9 +5,9 @@ use Rattle.castor_alg.specs.declared.context.Context.{Context}
 use Rattle.castor_alg.specs.declared.rel.Rel.{Rel, Scalar, Cross, List as Listed}
 use Rattle.castor_alg.specs.declared.step.Arg.{Arg}
 use Rattle.castor_alg.specs.declared.step.Arg.TheVariants.{Nothing, Pred}
-use Rattle.castor_nest.specs.declared.rule_error.RuleError.{RuleError}
-use Rattle.castor_nest.specs.declared.rule_error.RuleError.TheVariants.{BadArgument}
-use Rattle.castor_nest.specs.ColumnCount.{column_count}
+use Rattle.castor_alg.specs.declared.rule_error.RuleError.{RuleError}
+use Rattle.castor_alg.specs.declared.rule_error.RuleError.TheVariants.{BadArgument}
+use Rattle.castor_alg.specs.ColumnCount.{column_count}
 use Rattle.castor_nest.specs.ScopeColumns.{scope_columns}
 
 -- list(q as k, cross(scalar(k.0), .., scalar(k.n))), where k.n is the last column of q

@@ -4,12 +4,9 @@
 //! of its own here, and its row under `specs/` in a file of the same name.
 #![tactic(auto)]
 
-pub mod columns;
-pub mod rule_error;
-pub mod rules;
-pub mod store;
+mod rules;
+mod store;
 
-pub use columns::{column_count, columns_are_counted};
-pub use rule_error::RuleError;
+pub use castor_alg::RuleError;
 pub use rules::apply;
 pub use store::store_rows;

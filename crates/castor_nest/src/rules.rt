@@ -5,13 +5,12 @@ ghost use Rattle.castor_val.specs.Gives.{Gives};
 ghost use Rattle.castor_alg.specs.declared.step.NestRule.TheVariants.{Store};
 ghost use Rattle.castor_alg.specs.FreshScope.{scope_numbers};
 ghost use Rattle.castor_alg.specs.Typing.{Typed};
-ghost use Rattle.castor_laws.specs.Equivalence.{Equivalent};
-ghost use Rattle.castor_nest.specs.declared.rule_error.RuleError.TheVariants as error;
+ghost use Rattle.castor_alg.specs.Equivalence.{Equivalent};
+ghost use Rattle.castor_alg.specs.declared.rule_error.RuleError.TheVariants as error;
 ghost use Rattle.castor_nest.specs.Store.{store_row, stored};
 
-use crate::rule_error::RuleError;
 use crate::store::store_rows;
-use castor_alg::{Arg, Context, NestRule, Rel, copy};
+use castor_alg::{Arg, Context, NestRule, Rel, RuleError, copy};
 use castor_val::{Memory, Ty};
 use sqlite_items::Items;
 use std::alloc::Global;

@@ -5,8 +5,7 @@ ghost use Rattle.castor_alg.specs.declared.rel.Rel.{Cross, List as Listed, Scala
 ghost use Rattle.castor_nest.specs.ScopeColumns.{scope_columns};
 ghost use Rattle.castor_nest.specs.Store.{stored};
 
-use crate::columns::column_count;
-use castor_alg::{Expr, Rel, both, boxed};
+use castor_alg::{Expr, Rel, both, boxed, column_count};
 use castor_val::{Memory, Ty};
 use sqlite_items::Items;
 use std::alloc::Global;

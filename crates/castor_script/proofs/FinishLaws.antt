@@ -22,7 +22,7 @@ use Rattle.castor_script.specs.Finish.{finish_of, finished, finished_from, is_wi
 use Rattle.castor_script.specs.Kept.{MeansTheSame}
 use Rattle.castor_script.specs.Settled.{RunScopes, no_run_scopes, waits, with_scope}
 use Rattle.castor_script.proofs.FinishClauses.{finished-Table, finished-Scalar, finished-Cross, finished-Concat, finished-Select, finished-Filter, finished-Join, finished-DepJoin, finished-Group, finished-Order, finished-Dedup, finished-List, finished-Hash, finished-Ord}
-use Rattle.castor_script.proofs.SameLaws.{Same, same_refl, cross_same, concat_same, select_same, filter_same, join_same, depjoin_same, group_same, order_same, dedup_same, list_same, hash_same, ordered_same}
+use Rattle.castor_laws.proofs.SameLaws.{Same, same_refl, cross_same, concat_same, select_same, filter_same, join_same, depjoin_same, group_same, order_same, dedup_same, list_same, hash_same, ordered_same}
 
 abbrev Keeps : Rel → Type 0
 Keeps q = (context : Context) (types : List Ty) → is_context context ≡ true → types_under q context ≡ Some types → (runs : RunScopes) (next : ℕ) → Same context q (finished context.tables q runs next).0

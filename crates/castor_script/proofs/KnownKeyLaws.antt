@@ -16,10 +16,11 @@ use Rattle.castor_alg.specs.Rows.{combined, is_true, row_in}
 use Rattle.castor_alg.specs.Scopes.{Scopes, bind}
 use Rattle.castor_alg.proofs.RelInduction.{With, relations, rel_induction, fold-Table, fold-Scalar, fold-Cross, fold-Concat, fold-Select, fold-Filter, fold-Join, fold-DepJoin, fold-Group, fold-Order, fold-Dedup, fold-List, fold-Hash, fold-Ord}
 use Rattle.castor_laws.proofs.RelClauseLaws.{meaning-Scalar, meaning-Cross, meaning-Select, meaning-Filter, meaning-Order, meaning-Dedup, meaning-List}
+use Rattle.castor_laws.proofs.ScalarLaws.{one_row}
 use Rattle.castor_script.specs.InOrder.{KnownKeysAreTrue}
 use Rattle.castor_script.specs.KnownKeys.{Known, all_values, is_column, is_scope_column, known, known_step, moved, moved_into, nothing, sorted_as, with_value}
+use Rattle.castor_script.proofs.MovedColumnLaws.{projection_moves, scalars_move}
 use Rattle.castor_script.proofs.MovedKeyLaws.{ordered_made}
-use Rattle.castor_script.proofs.ScalarLaws.{crossed_front, projection_moves, scalars_move}
 use Rattle.castor_script.proofs.SortedRowLaws.{Ordered, ordered_by_fewer, ordered_distinct, ordered_filter, ordered_without_keys, precedes, sorted_from_ordered, sorted_ordered}
 
 -- the rows of a relation over tables, an environment and parameters
@@ -61,7 +62,7 @@ combined_scalars (r ∷ rs) es is ts env p =
     let first = r.1.value parts.0 parts.2 ts env p in
     let rest = combined_scalars rs parts.1 parts.3 ts env p in
     (λ i. flat_map (λ a. map (λ b. a ++ b) (rest i)) (first i))
-    ∙ crossed_front (expr_value parts.0 [] env p) (expr_values parts.1 [] env p)
+    ∙ one_row (expr_value parts.0 [] env p) (expr_values parts.1 [] env p)
     ∙ ap (λ xs. row_in (expr_values xs [] env p)) parts.4
 
 -- the rows of a list whose body is known, or isn't

@@ -3,10 +3,9 @@ pub mod FinishClauses
 pub mod FinishLaws
 mod KnownKeyLaws
 pub mod MadeLaws
+mod MovedColumnLaws
 mod MovedKeyLaws
 mod MovingLaws
 pub mod OperandLaws
-pub mod SameLaws
-mod ScalarLaws
 mod SortedRowLaws
 pub mod WaitLaws

@@ -8,7 +8,7 @@ use Rattle.castor_alg.specs.declared.out.Out.{Out}
 use Rattle.castor_alg.specs.declared.rel.Key.{Key}
 use Rattle.castor_alg.specs.Distinct.{distinct}
 use Rattle.castor_alg.specs.Sorting.{by_key, by_keys, inserted, sorted, sorted_by}
-use Rattle.castor_eval.proofs.SortLaws.{Above, Up, also, done, empty, keys_order, next, up_sorted}
+use Rattle.castor_laws.proofs.SortingLaws.{Above, Up, also, done, empty, keys_order, next, up_sorted}
 use Rattle.castor_laws.proofs.EachLaws.{All_from_each, Each, none, one}
 use Rattle.castor_script.specs.InOrder.{AreInOrder, IsSortedBy}
 

@@ -1,5 +1,6 @@
 -- `finish`: whatever of a query doesn't wait for a question is stored.
 use Rattle.std.specs.Prelude.{ℕ, ◌+◌, ◌^◌, nat_le, List, [], ◌∷◌, map, Bool, true, false, ◌&&◌, if◌then◌else◌, Option, Some, None, Result, Ok, Err}
+use Rattle.castor_val.specs.Limits.{most_depth, most_query_nodes}
 use Rattle.castor_val.specs.declared.value.Ty.{Ty}
 use Rattle.castor_alg.specs.declared.rel.Rel.{Rel, fold-Rel}
 use Rattle.castor_alg.specs.declared.rel.Rel as R
@@ -74,7 +75,7 @@ two_finished r s = ((r.0, (s r.1).0), (s r.1).1)
 
 -- all scope numbers are of 32 bits, and the query has at most 4,096 nodes and a depth of at most 64
 abbrev pub is_within_limits : Rel × ℕ → Bool
-is_within_limits made = nat_le made.1 (2 ^ 32) && (nat_le (nodes made.0) 4096 && nat_le (depth made.0) 64)
+is_within_limits made = nat_le made.1 (2 ^ 32) && (nat_le (nodes made.0) most_query_nodes && nat_le (depth made.0) most_depth)
 
 abbrev pub limited : Rel × ℕ → Result Rel StepError
 limited made = if is_within_limits made then Ok made.0 else Err TooLarge

@@ -24,15 +24,9 @@ use castor_alg::{
     Context, Expr, Rel, both, boxed, copy, copy_bound, copy_expr, copy_exprs, depth, fresh, nodes,
 };
 use castor_nest::store_rows;
-use castor_val::{Memory, Ty};
+use castor_val::{MAX_DEPTH, MAX_QUERY_NODES, Memory, Ty};
 use sqlite_items::{Boxed, Items};
 use std::alloc::Global;
-
-/// The most nodes of a query, relations and expressions together.
-pub const MAX_NODES: u64 = 4_096;
-
-/// The greatest depth of a query.
-pub const MAX_DEPTH: u64 = 64;
 
 /// The query with each relation stored that needn't wait for a question. It means exactly what the query
 /// means: the same rows in the same order, and the same faults.
@@ -69,7 +63,7 @@ fn limit(made: Made<Rel>) -> Result<Rel, StepError>
 {
     match made {
         Ok((query, _)) => {
-            if nodes(&query) <= MAX_NODES && depth(&query) <= MAX_DEPTH {
+            if nodes(&query) <= MAX_QUERY_NODES && depth(&query) <= MAX_DEPTH {
                 Ok(query)
             } else {
                 Err(StepError::TooLarge)

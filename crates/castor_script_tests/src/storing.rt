@@ -6,8 +6,8 @@ use crate::build::{
 };
 use crate::shown::shown;
 use crate::types::{context, tables};
-use castor_alg::{Agg, Arg, Context, Expr, NestRule, Rel, type_of};
-use castor_nest::{RuleError, apply, column_count, store_rows};
+use castor_alg::{Agg, Arg, Context, Expr, NestRule, Rel, column_count, type_of};
+use castor_nest::{RuleError, apply, store_rows};
 use castor_val::{Memory, Ty};
 use sqlite_items::Items;
 use std::alloc::Global;

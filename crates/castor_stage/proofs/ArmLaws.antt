@@ -12,8 +12,8 @@ use Rattle.castor_alg.specs.declared.rel.Rel as R
 use Rattle.castor_alg.specs.Expression.{expr_value}
 use Rattle.castor_alg.specs.Meaning.{meaning}
 use Rattle.castor_alg.specs.Scopes.{Scopes, bind, unbound}
-use Rattle.castor_stage.specs.declared.held_out.HeldOut.{HeldOut}
-use Rattle.castor_stage.specs.HeldData.{held_under, keyed, keys_of, leaf, listed, parted, within}
+use Rattle.castor_alg.specs.declared.held_out.HeldOut.{HeldOut}
+use Rattle.castor_alg.specs.HeldData.{held_under, keyed, keys_of, leaf, listed, parted, within}
 use Rattle.castor_stage.proofs.HoldingLaws.{holding-Table, holding-Scalar, holding-Select, holding-Filter, holding-Join, holding-Group, holding-Order, holding-Dedup, holding-Cross, holding-Concat, holding-DepJoin, holding-List, holding-Hash, holding-Ord}
 
 module _ (ts : List Table) (env : Scopes) (p : Row) where

@@ -4,7 +4,7 @@ use Rattle.std.specs.List.{list_all}
 use Rattle.castor_val.specs.declared.row.Row.{Row}
 use Rattle.castor_val.specs.declared.table.Table.{Table}
 use Rattle.castor_val.specs.declared.value.Value.TheVariants.{Bool as Truth}
-use Rattle.castor_val.specs.Values.{row_cmp}
+use Rattle.castor_val.specs.Values.{has_faults, row_cmp}
 use Rattle.castor_val.proofs.OrderLaws.{row_order}
 use Rattle.castor_alg.specs.declared.held.Held.{Held}
 use Rattle.castor_alg.specs.declared.out.Out.{Out}
@@ -13,10 +13,10 @@ use Rattle.castor_alg.specs.Expression.{Answer, expr_value}
 use Rattle.castor_alg.specs.Meaning.{meaning}
 use Rattle.castor_alg.specs.Scopes.{Scopes, bind, unbound}
 use Rattle.castor_alg.proofs.RelInduction.{With, relations, rel_induction}
-use Rattle.castor_stage.specs.declared.held_out.HeldOut.{HeldOut}
+use Rattle.castor_alg.specs.declared.held_out.HeldOut.{HeldOut}
 use Rattle.castor_stage.specs.declared.hold_error.HoldError.{HoldError}
-use Rattle.castor_stage.specs.HeldData.{entry, has_faults, held_under, keyed, keys_of, leaf, tree_or_faults}
-use Rattle.castor_stage.specs.HeldKeys.{HasAscendingKeys, has_ascending_keys}
+use Rattle.castor_alg.specs.HeldData.{entry, held_under, keyed, keys_of, leaf, tree_or_faults}
+use Rattle.castor_alg.specs.HeldKeys.{HasAscendingKeys, has_ascending_keys}
 use Rattle.castor_stage.specs.Holds.{IsHold}
 use Rattle.castor_stage.proofs.HoldingLaws.{holding-Table, holding-Scalar, holding-Cross, holding-Concat, holding-Select, holding-Filter, holding-Join, holding-DepJoin, holding-Group, holding-Order, holding-Dedup, holding-List, holding-Hash, holding-Ord}
 use Rattle.castor_stage.proofs.KeyLaws.{strict_keys}

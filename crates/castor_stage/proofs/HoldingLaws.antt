@@ -1,4 +1,4 @@
--- What is stored for each operator, over what is stored for its operands.
+-- What is held for each operator, over what is held for its operands.
 use Rattle.std.proofs.Common.{◌≡◌, ◌∙◌, ℕ, List, [], ◌∷◌, map, refl, ap}
 use Rattle.castor_val.specs.declared.row.Row.{Row}
 use Rattle.castor_val.specs.declared.table.Table.{Table}
@@ -13,8 +13,8 @@ use Rattle.castor_alg.specs.Expression.{expr_value}
 use Rattle.castor_alg.specs.Meaning.{meaning}
 use Rattle.castor_alg.specs.Scopes.{Scopes, bind}
 use Rattle.castor_alg.proofs.RelInduction.{With, relations, rel_induction, fold-Table, fold-Scalar, fold-Cross, fold-Concat, fold-Select, fold-Filter, fold-Join, fold-DepJoin, fold-Group, fold-Order, fold-Dedup, fold-List, fold-Hash, fold-Ord}
-use Rattle.castor_stage.specs.declared.held_out.HeldOut.{HeldOut}
-use Rattle.castor_stage.specs.HeldData.{Holding, held_under, keyed, keys_of, leaf, listed, parted, with_holding, within}
+use Rattle.castor_alg.specs.declared.held_out.HeldOut.{HeldOut}
+use Rattle.castor_alg.specs.HeldData.{Holding, held_under, keyed, keys_of, leaf, listed, parted, with_holding, within}
 
 abbrev Beside : Type 0
 Beside = Rel × Holding
@@ -32,7 +32,7 @@ operands_beside : (rs : List (With IsBeside)) → map rel_in (map at (relations 
 operands_beside [] = refl
 operands_beside (r ∷ rs) = (λ i. r.1 i ∷ operands_beside rs i)
 
--- the relation that is kept beside what it stores is the relation itself
+-- the relation that is kept beside what it holds is the relation itself
 rel_beside : (q : Rel) → rel_in (at q) ≡ q
 rel_beside = rel_induction IsBeside record {
   table = λ n. ap rel_in (fold-Table Beside with_holding n) ∙ rolls-Table n;

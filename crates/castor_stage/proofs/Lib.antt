@@ -5,5 +5,6 @@ pub mod HoldingLaws
 pub mod KeyLaws
 pub mod LoopLaws
 pub mod OrderLaws
+pub mod PhaseLaws
 pub mod ShapeLaws
 pub mod WalkLaws

@@ -1,4 +1,4 @@
--- What a loop over all operands, rows or keys has stored.
+-- What a loop over all operands, rows or keys has held.
 use Rattle.std.proofs.Common.{◌≡◌, ◌∙◌, ℕ, ◌≤◌, List, [], ◌∷◌, length, map, take, refl, sym, ap, subst, Bool, ◌||◌, Result, Ok, Err, IfOk, IsOkAnd}
 use Rattle.std.specs.List.{list_any}
 use Rattle.std.proofs.lemmas.List.{take_all}
@@ -10,8 +10,8 @@ use Rattle.castor_alg.specs.declared.held.Entry.{Entry}
 use Rattle.castor_alg.specs.declared.held.Held.{Held, Parts, Rows, Keyed}
 use Rattle.castor_alg.specs.declared.out.Out.{Out}
 use Rattle.castor_alg.specs.Rows.{union_over}
-use Rattle.castor_stage.specs.declared.held_out.HeldOut.{HeldOut}
-use Rattle.castor_stage.specs.HeldData.{entry, keyed, listed, parted}
+use Rattle.castor_alg.specs.declared.held_out.HeldOut.{HeldOut}
+use Rattle.castor_alg.specs.HeldData.{entry, keyed, listed, parted}
 
 any-map : {X Y : Type 0} (f : X → Y) (p : Y → Bool) (xs : List X) → list_any p (map f xs) ≡ list_any (λ x. p (f x)) xs
 any-map f p [] = refl

@@ -1,20 +1,13 @@
--- The order of whole rows, and the distinct rows of a relation.
+-- The distinct rows of a relation.
 use Rattle.std.proofs.Common.{◌≡◌, ◌∙◌, List, ap}
-use Rattle.std.specs.Cmp.{IsStrictWeakOrder}
-use Rattle.std.proofs.lemmas.List.Sorted.{ranks_by}
 use Rattle.castor_val.specs.declared.row.Row.{Row}
 use Rattle.castor_val.specs.declared.table.Table.{Table}
-use Rattle.castor_val.proofs.OrderLaws.{row_order}
 use Rattle.castor_alg.specs.declared.out.Out.{Out}
 use Rattle.castor_alg.specs.declared.rel.Rel.{Rel, Dedup}
 use Rattle.castor_alg.specs.Distinct.{deduped}
 use Rattle.castor_alg.specs.Meaning.{meaning}
 use Rattle.castor_alg.specs.Scopes.{Scopes}
-use Rattle.castor_alg.specs.Sorting.{row_lt}
-use Rattle.castor_eval.proofs.MeaningLaws.{meaning-Dedup}
-
-pub rows_order : IsStrictWeakOrder row_lt
-rows_order = ranks_by row_order.total (λ (a : Row). a)
+use Rattle.castor_laws.proofs.RelClauseLaws.{meaning-Dedup}
 
 -- what the evaluator gives for the distinct rows of a relation
 pub distinct_meant : (ts : List Table) (env : Scopes) (p : Row) (q r : Rel) (out : Out) → out ≡ meaning q ts env p → q ≡ Dedup r → out ≡ deduped (meaning r ts env p)

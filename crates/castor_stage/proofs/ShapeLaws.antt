@@ -12,7 +12,7 @@ use Rattle.castor_alg.specs.declared.held.Entry.{Entry, fold-Entry, fold_out-Ent
 use Rattle.castor_alg.specs.declared.held.Held.{Held, Leaf, Parts, Rows, Keyed, Inner, fold-roll-Held}
 use Rattle.castor_alg.specs.declared.held.Held.TheVariants.{rolls-Leaf, rolls-Parts, rolls-Rows, rolls-Keyed, rolls-Inner}
 use Rattle.castor_alg.specs.declared.held.Held.TheOpen as F
-use Rattle.castor_stage.specs.HeldKeys.{entry_step, has_ascending_keys, keys_step}
+use Rattle.castor_alg.specs.HeldKeys.{entry_step, has_ascending_keys, keys_step}
 
 pub ascends-Leaf : (v : Value) → has_ascending_keys (Leaf v) ≡ true
 ascends-Leaf v = ap has_ascending_keys (sym (rolls-Leaf v)) ∙ fold-roll-Held Bool (Row × Bool) keys_step entry_step (F.Leaf v)

@@ -2,9 +2,9 @@
 use Rattle.std.proofs.Common.{◌≡◌, ◌∙◌, ℕ, zero, suc, ◌+◌, ◌<◌, List, [], ◌∷◌, ◌++◌, length, map, take, get_or, refl, sym, ap, arith, Ok, Err}
 use Rattle.std.proofs.lemmas.List.{take_more}
 use Rattle.castor_alg.specs.declared.rel.Rel.{Rel}
-use Rattle.castor_stage.specs.declared.phase.Phase.{Phase}
-use Rattle.castor_stage.specs.declared.stage_error.StageError.{StageError}
-use Rattle.castor_stage.specs.Stages.{Phases, Staged, Staging, both, in_turn, stage_under}
+use Rattle.castor_alg.specs.declared.phase.Phase.{Phase}
+use Rattle.castor_alg.specs.declared.stage_error.StageError.{StageError}
+use Rattle.castor_alg.specs.Stages.{Phases, Staged, Staging, both, in_turn, stage_under}
 
 -- where nothing is found in two parts, nothing is found in the first
 pub both_left : (a b : Staged) → both a b ≡ Ok tt → a ≡ Ok tt

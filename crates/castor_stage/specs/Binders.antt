@@ -1,7 +1,7 @@
 -- The phases that borrowed binders stand for.
 use Rattle.castor_stage.specs.declared.binders.Binders.{Binders}
 use Rattle.castor_stage.specs.declared.binders.Binders.TheVariants.{Outside, Bind'}
-use Rattle.castor_stage.specs.Stages.{Phases, bind_phase, no_phases}
+use Rattle.castor_alg.specs.Stages.{Phases, bind_phase, no_phases}
 
 -- the phases of the scopes within the binders
 abbrev pub phases_of : Binders → Phases

@@ -3,7 +3,7 @@
 ghost use Rattle.std.specs.Prelude.{◌≡◌};
 ghost use Rattle.castor_stage.specs.Binders.{phases_of};
 
-use crate::phase::Phase;
+use castor_alg::Phase;
 
 /// The scopes in force, each with the phase in which its row is known, the innermost binder first.
 /// Where a scope is bound twice the innermost binder counts.

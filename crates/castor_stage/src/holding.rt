@@ -4,32 +4,31 @@ ghost use Rattle.std.specs.Prelude.{◌≡◌, ◌∷◌, ◌++◌, [], IfOk, Is
 ghost use Rattle.castor_val.specs.Values.{value_of};
 ghost use Rattle.castor_alg.specs.Expression.{expr_value};
 ghost use Rattle.castor_alg.specs.Scopes.{bind, scopes_of, unbound};
-ghost use Rattle.castor_stage.specs.HeldData.{held_data, held_under, keyed, leaf, listed, parted, tree_or_faults, within};
-ghost use Rattle.castor_stage.specs.HeldKeys.{HasAscendingKeys};
+ghost use Rattle.castor_alg.specs.HeldData.{held_data, held_under, keyed, leaf, listed, parted, tree_or_faults, within};
+ghost use Rattle.castor_alg.specs.HeldKeys.{HasAscendingKeys};
 ghost use Rattle.castor_stage.specs.Holds.{IsHold};
 
-use crate::held_out::HeldOut;
 use crate::hold_error::HoldError;
 use crate::keys::key_rows;
 use crate::source::source_rows;
-use castor_alg::{Entry, Env, Expr, Held, Out, Rel, both, boxed, value};
+use castor_alg::{Entry, Env, Expr, Held, HeldOut, Out, Rel, both, boxed, value};
 use castor_val::{Cell, Faults, Memory, Row, Table, Value};
 use sqlite_items::Items;
 use std::alloc::Global;
 
-/// What is stored for a query over tables: the tree of its values, or the faults of all sources and
+/// What is held for a query over tables: the tree of its values, or the faults of all sources and
 /// scalars that are met, where there are any.
 ///
-/// A `Scalar` stores its value; `Cross`, `Concat` and `DepJoin` one part for each operand; `Select`,
-/// `Filter`, `Group`, `Order` and `Dedup` what their operand stores; a `List` what its body stores under
+/// A `Scalar` holds its value; `Cross`, `Concat` and `DepJoin` one part for each operand; `Select`,
+/// `Filter`, `Group`, `Order` and `Dedup` what their operand holds; a `List` what its body holds under
 /// each row of its source; `Hash` and `Ord` the distinct rows of their source, ascending, each with what
-/// the body stores under it. A row on which a source faults is dropped, and its fault counts. Where
+/// the body holds under it. A row on which a source faults is dropped, and its fault counts. Where
 /// `stage` accepts the query no table, parameter or scope is missed; the call answers for any other query
-/// too, as if a table or a join in run position stored nothing, and a scope that isn't known at build had
+/// too, as if a table or a join in run position held nothing, and a scope that isn't known at build had
 /// no columns.
 ///
 /// A source is evaluated each time that it is met: once for each row of the sources around it. An index
-/// costs besides that of the order n log n in its distinct rows. Each stored text is copied once from what
+/// costs besides that of the order n log n in its distinct rows. Each held text is copied once from what
 /// the evaluator gives, and those of keys are moved.
 pub fn hold(alloc: Global, q: &Rel, tables: &[Table]) -> Result<Held, HoldError>
     ensures data { IsHold (held_data q.now tables.now) result }
@@ -120,7 +119,7 @@ fn hold_scalar<'e, 'a>(alloc: Global, e: &'a Expr, env: &Env<'e, 'a>) -> Result<
     }
 }
 
-// What the one operand stores.
+// What the one operand holds.
 #[cycle(hold)]
 fn hold_inner<'e, 'a>(
     alloc: Global,
@@ -137,7 +136,7 @@ fn hold_inner<'e, 'a>(
     })
 }
 
-// What each operand stores.
+// What each operand holds.
 #[cycle(hold)]
 fn hold_parts<'e, 'a>(
     alloc: Global,
@@ -160,7 +159,7 @@ fn hold_parts<'e, 'a>(
     })
 }
 
-// What the body of a dependent join stores. The row of its scope isn't known.
+// What the body of a dependent join holds. The row of its scope isn't known.
 #[cycle(hold)]
 fn hold_unknown<'e, 'a>(
     alloc: Global,
@@ -174,7 +173,7 @@ fn hold_unknown<'e, 'a>(
     Ok(hold_under_cells(alloc, k, &[], &*s, tables, &*env)?)
 }
 
-// What two operands store, where there was memory for both.
+// What two operands hold, where there was memory for both.
 fn pair(
     alloc: Global,
     first: Result<HeldOut, Memory>,
@@ -198,7 +197,7 @@ fn two_parts(alloc: Global, first: HeldOut, second: HeldOut) -> Result<HeldOut, 
     })
 }
 
-// Puts what is stored behind the others, and gives its faults.
+// Puts what is held behind the others, and gives its faults.
 fn add(kids: &mut Items<Held>, kid: HeldOut) -> Result<Faults, Memory>
     ensures kids { OnOk result (kids.new ≡ kids.old ++ kid.held ∷ []) }
     ensures faults { IfOk result (λ faults. faults ≡ kid.faults) }
@@ -208,7 +207,7 @@ fn add(kids: &mut Items<Held>, kid: HeldOut) -> Result<Faults, Memory>
     Ok(faults)
 }
 
-// Puts a key and what is stored under it behind the others, and gives its faults.
+// Puts a key and what is held under it behind the others, and gives its faults.
 fn add_entry(entries: &mut Items<Entry>, key: Row, kid: HeldOut) -> Result<Faults, Memory>
     ensures entries { OnOk result (entries.new ≡ entries.old ++ record { key = key; kid = kid.held } ∷ []) }
     ensures faults { IfOk result (λ faults. faults ≡ kid.faults) }
@@ -218,7 +217,7 @@ fn add_entry(entries: &mut Items<Entry>, key: Row, kid: HeldOut) -> Result<Fault
     Ok(faults)
 }
 
-// What the body stores under each row of the source.
+// What the body holds under each row of the source.
 #[cycle(hold)]
 fn hold_rows<'e, 'a>(
     alloc: Global,
@@ -243,7 +242,7 @@ fn hold_rows<'e, 'a>(
     })
 }
 
-// Each key, and what the body stores under it.
+// Each key, and what the body holds under it.
 #[cycle(hold)]
 fn hold_keys<'e, 'a>(
     alloc: Global,
@@ -268,7 +267,7 @@ fn hold_keys<'e, 'a>(
     })
 }
 
-// What the body stores under one row of the source.
+// What the body holds under one row of the source.
 #[cycle(hold)]
 fn hold_under_row<'e, 'a>(
     alloc: Global,

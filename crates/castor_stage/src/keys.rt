@@ -1,17 +1,15 @@
 //! The keys of an index.
 
 ghost use Rattle.std.specs.Prelude.{◌≡◌, [], IfOk, OnOk};
-ghost use Rattle.castor_val.specs.Values.{row_cmp};
 ghost use Rattle.castor_alg.specs.Meaning.{meaning};
 ghost use Rattle.castor_alg.specs.Scopes.{scopes_of};
 ghost use Rattle.castor_alg.specs.Sorting.{row_lt, sorted};
-ghost use Rattle.castor_stage.specs.HeldData.{keys_of};
+ghost use Rattle.castor_alg.specs.HeldData.{keys_of};
 
 use crate::source::distinct_rows;
 use castor_alg::{Env, Out, Rel};
-use castor_val::{Memory, Row, Table, Value};
+use castor_val::{Memory, Row, Table, compare_values};
 use std::alloc::Global;
-use std::cmp::Ordering;
 
 /// The distinct rows of a relation, ascending, and its faults. Besides the evaluation of the order
 /// n log n in the distinct rows, which are moved.
@@ -37,11 +35,4 @@ fn sort_ascending(rows: &mut Vec<Row>) -> Result<(), Memory>
 {
     rows.sort_by(|a, b| compare_values(a.as_slice(), b.as_slice()))?;
     Ok(())
-}
-
-// How two rows are ordered: by the first value in which they differ, a row before its extensions.
-fn compare_values(a: &[Value], b: &[Value]) -> Ordering
-    ensures { result ≡ row_cmp a.now b.now }
-{
-    a.iter().map(Value::cell).cmp(b.iter().map(Value::cell))
 }

@@ -5,17 +5,14 @@
 //! parameters and the held data, so it may read no table.
 #![tactic(auto)]
 
-pub mod binders;
-pub mod held_out;
-pub mod hold_error;
-pub mod holding;
+mod binders;
+mod hold_error;
+mod holding;
 mod keys;
-pub mod phase;
 mod source;
-pub mod stage_error;
-pub mod staging;
+mod staging;
 
+pub use castor_alg::StageError;
 pub use hold_error::HoldError;
 pub use holding::hold;
-pub use stage_error::StageError;
 pub use staging::stage;

@@ -3,14 +3,12 @@
 ghost use Rattle.std.specs.Prelude.{◌≡◌, OnOk, map};
 ghost use Rattle.castor_stage.specs.Binders.{phases_of};
 ghost use Rattle.castor_stage.specs.Holds.{IsKnownAtBuild};
-ghost use Rattle.castor_stage.specs.Stages.{bind_phase, bound_stage, expr_stage, exprs_stage, in_turn, scope_in};
-ghost use Rattle.castor_stage.specs.Stages.{stage as stage_of};
-ghost use Rattle.castor_stage.specs.Stages.{stage_under};
+ghost use Rattle.castor_alg.specs.Stages.{bind_phase, bound_stage, expr_stage, exprs_stage, in_turn, scope_in};
+ghost use Rattle.castor_alg.specs.Stages.{stage as stage_of};
+ghost use Rattle.castor_alg.specs.Stages.{stage_under};
 
 use crate::binders::Binders;
-use crate::phase::Phase;
-use crate::stage_error::StageError;
-use castor_alg::{Bound, Expr, Rel};
+use castor_alg::{Bound, Expr, Phase, Rel, StageError};
 
 /// Whether each part of a query stands in its phase, or the first that doesn't: a relation comes before
 /// its expressions, these before its operands, and each of them from left to right.

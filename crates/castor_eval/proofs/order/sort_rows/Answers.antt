@@ -2,7 +2,7 @@ use Rattle.std.proofs.Common.{rules, ap}
 use Rattle.std.specs.Ordering.{is_lt}
 use Rattle.std.proofs.lemmas.Fn.{always_returns_same}
 use Rattle.castor_alg.specs.Sorting.{by_keys}
-use Rattle.castor_eval.proofs.SortLaws.{keys_order, sorted_is}
+use Rattle.castor_laws.proofs.SortingLaws.{keys_order, sorted_is}
 use Rattle.castor_eval.proofs.order.sort_rows.Goals as goal
 
 pub returns : goal.returns

@@ -5,7 +5,7 @@ use Rattle.std.proofs.lemmas.List.{map-id}
 use Rattle.castor_val.specs.declared.row.Row.{Row}
 use Rattle.castor_alg.specs.declared.rel.Rel.{Rel}
 use Rattle.castor_alg.specs.Scopes.{bind, scopes_of, unbound}
-use Rattle.castor_stage.specs.HeldData.{held_under}
+use Rattle.castor_alg.specs.HeldData.{held_under}
 use Rattle.castor_stage.proofs.ArmLaws.{concat_held, cross_held, dedup_held, depjoin_held, filter_held, group_held, hash_held, join_held, list_held, ord_held, order_held, scalar_held, select_held, table_held}
 use Rattle.castor_stage.proofs.LoopLaws.{keys_whole, pair_whole, parts_whole, rows_whole}
 use Rattle.castor_stage.proofs.holding.+hold.Goals as goal

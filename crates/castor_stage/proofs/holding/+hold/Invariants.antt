@@ -4,7 +4,7 @@ use Rattle.castor_val.specs.Values.{union}
 use Rattle.castor_alg.specs.declared.rel.Rel.{Rel}
 use Rattle.castor_alg.specs.Rows.{union_over}
 use Rattle.castor_alg.specs.Scopes.{bind, scopes_of, unbound}
-use Rattle.castor_stage.specs.HeldData.{entry, held_under}
+use Rattle.castor_alg.specs.HeldData.{entry, held_under}
 use Rattle.castor_stage.proofs.holding.+hold.Given as goal
 
 abbrev pub invariant-hold_parts-loop-r : goal.invariant-hold_parts-loop-r

@@ -2,8 +2,7 @@ use Rattle.std.proofs.Common.{rules, ap}
 use Rattle.std.specs.Ordering.{is_lt}
 use Rattle.std.proofs.lemmas.Fn.{always_returns_same}
 use Rattle.castor_alg.specs.Sorting.{row_lt}
-use Rattle.castor_eval.proofs.SortLaws.{sorted_is}
-use Rattle.castor_stage.proofs.OrderLaws.{rows_order}
+use Rattle.castor_laws.proofs.SortingLaws.{rows_order, sorted_is}
 use Rattle.castor_stage.proofs.keys.sort_ascending.Goals as goal
 
 pub returns : goal.returns

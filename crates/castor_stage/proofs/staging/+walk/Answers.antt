@@ -2,7 +2,7 @@ use Rattle.std.proofs.Common.{◌∙◌, sym, ap}
 use Rattle.castor_alg.specs.declared.rel.Rel.{Rel}
 use Rattle.castor_alg.proofs.RelInduction.{fold-Cross, fold-Concat}
 use Rattle.castor_stage.specs.Binders.{phases_of}
-use Rattle.castor_stage.specs.Stages.{Staging, stage_step, stage_under}
+use Rattle.castor_alg.specs.Stages.{Staging, stage_step, stage_under}
 use Rattle.castor_stage.proofs.WalkLaws.{over_operands, turn-ends, turn-more}
 use Rattle.castor_stage.proofs.staging.+walk.Goals as goal
 

@@ -1,7 +1,7 @@
 use Rattle.std.proofs.Common.{sym}
 use Rattle.castor_alg.specs.declared.expr.Expr.{Expr}
 use Rattle.castor_stage.specs.Binders.{phases_of}
-use Rattle.castor_stage.specs.Stages.{expr_stage}
+use Rattle.castor_alg.specs.Stages.{expr_stage}
 use Rattle.castor_stage.proofs.WalkLaws.{turn-ends, turn-more}
 use Rattle.castor_stage.proofs.staging.walk_exprs.Goals as goal
 

@@ -1,7 +1,7 @@
 //! Worked relations: each operator over few rows, with repeated rows and rows that fault.
 
-use crate::evaluation::eval;
 use castor_alg::{Agg, Bound, Expr, Key, Op, Out, OwnedEnv, Rel};
+use castor_eval::eval;
 use castor_val::{Fault, Row, Table, Text, TextBuffer, Value};
 use sqlite_items::{Boxed, Items};
 use std::alloc::Global;

@@ -1,7 +1,6 @@
--- The values of items that are just columns, and of crosses of scalars.
-use Rattle.std.proofs.Common.{◌≡◌, ◌∙◌, ℕ, zero, suc, ◌<◌, ◌==◌, ◌&&◌, List, [], ◌∷◌, ◌++◌, map, length, get_or, refl, sym, ap, subst, cond, Bool, true, false, Option, Some, None, Result, Ok, Err, arith}
+-- The values of items that are just columns.
+use Rattle.std.proofs.Common.{◌≡◌, ◌∙◌, ℕ, zero, suc, ◌<◌, ◌==◌, ◌&&◌, List, [], ◌∷◌, length, get_or, refl, sym, ap, subst, cond, Bool, true, false, Option, Some, None, Result, Ok, Err, arith}
 use Rattle.std.specs.Prelude.{position}
-use Rattle.std.specs.List.{flat_map}
 use Rattle.std.proofs.lemmas.Bool.{and_parts, eq-eqb, eqb-true}
 use Rattle.std.proofs.lemmas.List.Quantifiers.{position-Some}
 use Rattle.castor_val.specs.declared.fault.Faults.{Faults}
@@ -11,7 +10,6 @@ use Rattle.castor_val.specs.Values.{column}
 use Rattle.castor_alg.specs.declared.expr.Expr.{Expr}
 use Rattle.castor_alg.specs.declared.expr.Expr as E
 use Rattle.castor_alg.specs.Expression.{Answer, expr_value, expr_values, put_front}
-use Rattle.castor_alg.specs.Rows.{row_in}
 use Rattle.castor_alg.specs.Scopes.{Scopes, bind}
 use Rattle.castor_alg.proofs.ExprInduction.{expr_induction, fold-Col, fold-Scope, fold-Param, fold-Lit, fold-Bin, fold-Not, fold-If}
 use Rattle.castor_laws.proofs.ExprClauseLaws.{expr_value-Col, expr_value-Scope}
@@ -85,10 +83,3 @@ scalars_move es k env params a made is c at found =
     let place = position-Some (is_scope_column k c) es at (E.Col zero) found in
     let e = get_or es at (E.Col zero) in
     value_of_ok (expr_value e [] (bind env k a) params) (column made at) (column a c) (value_at es [] (bind env k a) params made is at (E.Col zero) place.0) (scope_value k c a [] env params e place.1)
-
--- one value beside the others
-pub crossed_front : (x : Answer) (xs : Result Row Faults) → flat_map (λ a. map (λ b. a ++ b) (row_in xs)) (row_in (put_front x (Ok []))) ≡ row_in (put_front x xs)
-crossed_front (Ok v) (Ok row) = refl
-crossed_front (Ok v) (Err f) = refl
-crossed_front (Err f) (Ok row) = refl
-crossed_front (Err f) (Err g) = refl

@@ -4,6 +4,7 @@ use Rattle.std.proofs.lemmas.Bool.{eqb-true}
 use Rattle.std.specs.Cmp.Lexicographic.{pointwise}
 use Rattle.std.specs.Result.{result_ok}
 use Rattle.std.specs.Str.{bytes_eq}
+use Rattle.castor_val.specs.Columns.{types_of}
 use Rattle.castor_val.specs.Fields.{field_value}
 use Rattle.castor_val.specs.Values.{row_fits, table_fits}
 use Rattle.castor_val.proofs.FieldLaws.{field_value_fits}
@@ -14,7 +15,7 @@ use Rattle.castor_val.specs.declared.value.Ty.{Ty}
 use Rattle.castor_load.specs.Lines.{values_of_records}
 use Rattle.castor_load.specs.Words.{Record}
 use Rattle.castor_load.specs.declared.error.LoadError.{LoadError}
-use Rattle.castor_load.specs.Rows.{all_or_refusal, and_more, names_of, row_of, rows_from, table_of_records, types_of, values_from}
+use Rattle.castor_load.specs.Rows.{all_or_refusal, and_more, names_of, row_of, rows_from, table_of_records, values_from}
 use Rattle.castor_load.specs.declared.error.LoadError.TheVariants.{BadField, BadHeader, BadRecord}
 
 -- what was read first, and what was read after it

@@ -5,9 +5,10 @@ use Rattle.std.specs.Cmp.Lexicographic.{pointwise}
 use Rattle.std.specs.Str.{bytes_eq}
 use Rattle.csv.specs.Records.{field_at}
 use Rattle.csv.proofs.RecordFacts.{field-there}
+use Rattle.castor_val.specs.Columns.{types_of}
 use Rattle.castor_val.specs.declared.column.Column.{Column}
 use Rattle.castor_val.specs.declared.value.Ty.{Ty}
-use Rattle.castor_load.specs.Rows.{all_or_refusal, and_more, field_read, names_of, row_of, rows_from, types_of, values_from}
+use Rattle.castor_load.specs.Rows.{all_or_refusal, and_more, field_read, names_of, row_of, rows_from, values_from}
 use Rattle.castor_load.specs.declared.error.LoadError.TheVariants.{BadField}
 
 -- these, and then those of an answer

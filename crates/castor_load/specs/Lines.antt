@@ -2,9 +2,10 @@
 use Rattle.std.specs.Prelude.{ℕ, List, [], ◌∷◌, Option, Some, None}
 use Rattle.std.specs.Result.{result_ok}
 use Rattle.csv.specs.Reading.{default_config, records, strip_bom}
+use Rattle.castor_val.specs.Columns.{types_of}
 use Rattle.castor_val.specs.declared.column.Column.{Column}
 use Rattle.castor_val.specs.declared.row.Row.{Row}
-use Rattle.castor_load.specs.Rows.{row_of, types_of}
+use Rattle.castor_load.specs.Rows.{row_of}
 use Rattle.castor_load.specs.Words.{Record}
 
 -- the values of records: none where there are no parameters, else those of the one record

@@ -5,6 +5,7 @@ use Rattle.std.specs.List.{enumerate_from, zip}
 use Rattle.std.specs.Result.{result_ok}
 use Rattle.std.specs.Str.{bytes_eq}
 use Rattle.csv.specs.Reading.{default_config, records, strip_bom}
+use Rattle.castor_val.specs.Columns.{types_of}
 use Rattle.castor_val.specs.Fields.{field_value}
 use Rattle.castor_val.specs.declared.column.Column.{Column}
 use Rattle.castor_val.specs.declared.row.Row.{Row}
@@ -14,10 +15,6 @@ use Rattle.castor_val.specs.declared.value.Value.{Value}
 use Rattle.castor_load.specs.Words.{Record}
 use Rattle.castor_load.specs.declared.error.LoadError.{LoadError}
 use Rattle.castor_load.specs.declared.error.LoadError.TheVariants.{BadHeader, BadRecord, BadField}
-
--- the types of columns
-abbrev pub types_of : List Column → List Ty
-types_of columns = map (λ c. c.ty) columns
 
 -- the names of columns
 abbrev pub names_of : List Column → List (List ℕ)

@@ -1,9 +1,10 @@
 //! The values of a question line.
 
 ghost use Rattle.std.specs.Prelude.{◌≡◌, ◌≤◌, IfOk, IfSome, IsTrue, length};
+ghost use Rattle.castor_val.specs.Columns.{types_of};
+ghost use Rattle.castor_val.specs.Limits.{most_columns};
 ghost use Rattle.castor_val.specs.Values.{row_fits};
 ghost use Rattle.castor_load.specs.Lines.{line_values};
-ghost use Rattle.castor_load.specs.Rows.{types_of};
 
 use crate::error::LoadError;
 use crate::records::Records;
@@ -20,7 +21,7 @@ use std::alloc::Global;
 /// order mark at its start is dropped, a line that is a CR alone holds no record, and an empty text
 /// is written `""`. Linear in the bytes of the line.
 pub fn read_line(alloc: Global, params: &[Column], line: &[u8]) -> Result<Option<Row>, Memory>
-    requires { length params.now ≤ 64 }
+    requires { length params.now ≤ most_columns }
     ensures exact { IfOk result (λ values. values ≡ line_values params.now line.now) }
     ensures fits { IfOk result (λ values. IfSome values (λ row.
         IsTrue (row_fits row (types_of params.now)))) }

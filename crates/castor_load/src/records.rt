@@ -17,13 +17,13 @@ use std::alloc::Global;
 /// to the next `"` that isn't doubled, or to the end of the text. Empty lines are no records, and
 /// one byte order mark at the start of the text is dropped. Fields are any bytes.
 #[derive(Drop)]
-pub struct Records<'a> {
+pub(crate) struct Records<'a> {
     reader: Reader<&'a [u8]>,
 }
 
 impl<'a> Records<'a> {
     /// The records of a text. Takes no memory until the first is read.
-    pub fn new(alloc: Global, text: &'a [u8]) -> Records<'a>
+    pub(crate) fn new(alloc: Global, text: &'a [u8]) -> Records<'a>
         ensures reading { IsReading result }
         ensures left { records_left result ≡ records default_config (strip_bom text.now) }
     {
@@ -39,7 +39,7 @@ impl<'a> Records<'a> {
     /// the memory of the record before is used again.
     ///
     /// After `Memory` no further record can be read.
-    pub fn next(&mut self, into: &mut ByteRecord) -> Result<bool, Memory>
+    pub(crate) fn next(&mut self, into: &mut ByteRecord) -> Result<bool, Memory>
         requires { IsReading self.old }
         ensures { IfOk result (λ found. MatchBool found
             (IsReading self.new

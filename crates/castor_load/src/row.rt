@@ -2,8 +2,10 @@
 
 ghost use Rattle.std.specs.Prelude.{◌≡◌, ◌≤◌, IfOk, [], length};
 ghost use Rattle.csv.specs.Records.{fields_of};
+ghost use Rattle.castor_val.specs.Columns.{types_of};
 ghost use Rattle.castor_val.specs.Gives.{Gives};
-ghost use Rattle.castor_load.specs.Rows.{field_read, row_of, types_of};
+ghost use Rattle.castor_val.specs.Limits.{most_columns};
+ghost use Rattle.castor_load.specs.Rows.{field_read, row_of};
 ghost use Rattle.castor_load.specs.declared.error.LoadError.TheVariants as error;
 
 use crate::error::LoadError;
@@ -42,7 +44,7 @@ pub(crate) fn read_row(
     number: u64,
     fields: &ByteRecord,
 ) -> Result<Row, LoadError>
-    requires { length columns.now ≤ 64 }
+    requires { length columns.now ≤ most_columns }
     ensures { Gives (λ row. row) error.Memory
         (row_of number (types_of columns.now) (fields_of fields.now)) result }
 {

@@ -4,9 +4,11 @@ ghost use Rattle.std.specs.Prelude.{◌≡◌, ◌≤◌, IfOk, IsTrue, length};
 ghost use Rattle.std.specs.Cmp.Lexicographic.{pointwise};
 ghost use Rattle.std.specs.Str.{bytes_eq};
 ghost use Rattle.csv.specs.Records.{fields_of};
+ghost use Rattle.castor_val.specs.Columns.{types_of};
 ghost use Rattle.castor_val.specs.Gives.{Gives};
+ghost use Rattle.castor_val.specs.Limits.{most_columns};
 ghost use Rattle.castor_val.specs.Values.{table_fits};
-ghost use Rattle.castor_load.specs.Rows.{names_of, table_of, types_of};
+ghost use Rattle.castor_load.specs.Rows.{names_of, table_of};
 ghost use Rattle.castor_load.specs.declared.error.LoadError.TheVariants as error;
 
 use crate::error::LoadError;
@@ -49,7 +51,7 @@ fn is_header(columns: &[Column], fields: &ByteRecord) -> bool
 /// memory is that of the rows alone: 24 bytes a row, 32 a value, and the bytes of its texts, with
 /// an allocation for each row and each text. The list of rows grows by doubling.
 pub fn load(alloc: Global, columns: &[Column], bytes: &[u8]) -> Result<Table, LoadError>
-    requires { length columns.now ≤ 64 }
+    requires { length columns.now ≤ most_columns }
     ensures exact { Gives (λ table. table) error.Memory (table_of columns.now bytes.now) result }
     ensures fits { IfOk result (λ table. IsTrue (table_fits table (types_of columns.now))) }
 {

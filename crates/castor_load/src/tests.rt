@@ -5,7 +5,7 @@ use crate::question::read_line;
 use crate::records::Records;
 use crate::table::load;
 use crate::writer::RecordWriter;
-use castor_val::{Cell, Column, Memory, Row, Text, Ty, Value};
+use castor_val::{Cell, Column, MAX_COLUMNS, Memory, Row, Text, Ty, Value};
 use csv::ByteRecord;
 use std::alloc::Global;
 use std::test::Fail;
@@ -89,7 +89,7 @@ fn loads_the_records_after_the_header(rt: HostRuntime) -> Result<(), Fail> {
         rt.alloc(),
         &[("n", Ty::Int), ("t", Ty::Text), ("b", Ty::Bool)],
     )?;
-    assert!(rt; columns.len() <= 64);
+    assert!(rt; columns.len() <= MAX_COLUMNS);
     for (bytes, due) in accepted_files() {
         let table = load(rt.alloc(), &columns, bytes)?;
         match (table.as_slice(), due) {
@@ -112,7 +112,7 @@ fn refuses_the_first_record_that_does_not_fit(rt: HostRuntime) -> Result<(), Fai
         rt.alloc(),
         &[("n", Ty::Int), ("t", Ty::Text), ("b", Ty::Bool)],
     )?;
-    assert!(rt; columns.len() <= 64);
+    assert!(rt; columns.len() <= MAX_COLUMNS);
     for (bytes, due) in refused_files() {
         match load(rt.alloc(), &columns, bytes) {
             Ok(table) => assert!(rt; false, "{table:?} of {bytes:?}"),
@@ -128,7 +128,7 @@ fn loads_a_thousand_orders(rt: HostRuntime) -> Result<(), Fail> {
         rt.alloc(),
         &[("id", Ty::Int), ("cust", Ty::Text), ("total", Ty::Int)],
     )?;
-    assert!(rt; columns.len() <= 64);
+    assert!(rt; columns.len() <= MAX_COLUMNS);
     let mut file = String::from_str(rt.alloc(), "\u{feff}id,cust,total\r\n")?;
     for i in 1..=1000u32 {
         let digit = i % 10;
@@ -153,7 +153,7 @@ fn loads_a_thousand_orders(rt: HostRuntime) -> Result<(), Fail> {
 #[test]
 fn loads_texts_of_at_most_65_535_bytes(rt: HostRuntime) -> Result<(), Fail> {
     let columns = columns_of(rt.alloc(), &[("t", Ty::Text)])?;
-    assert!(rt; columns.len() <= 64);
+    assert!(rt; columns.len() <= MAX_COLUMNS);
     let mut text = String::new(rt.alloc());
     for _ in 0..65_535 {
         text.push('a')?;
@@ -231,7 +231,7 @@ fn lines() -> [(Ty, &'static [u8], Option<Cell<'static>>); 19] {
 fn reads_lines_of_one_parameter(rt: HostRuntime) -> Result<(), Fail> {
     for (ty, line, due) in lines() {
         let params = columns_of(rt.alloc(), &[("p", ty)])?;
-        assert!(rt; params.len() <= 64);
+        assert!(rt; params.len() <= MAX_COLUMNS);
         match (read_line(rt.alloc(), &params, line)?, due) {
             (Some(row), Some(cell)) => assert!(rt; is_row(&row, &[cell]), "{row:?}"),
             (None, None) => {}
@@ -248,7 +248,7 @@ fn reads_lines_of_no_parameter_and_of_two(rt: HostRuntime) -> Result<(), Fail> {
         assert_eq!(rt; row.is_some(), accepted, "{line:?}");
     }
     let params = columns_of(rt.alloc(), &[("a", Ty::Int), ("b", Ty::Text)])?;
-    assert!(rt; params.len() <= 64);
+    assert!(rt; params.len() <= MAX_COLUMNS);
     match read_line(rt.alloc(), &params, b"30,\"5")? {
         Some(row) => assert!(rt; is_row(&row, &[Cell::Int(30), Cell::Text("5")])),
         None => assert!(rt; false, "two values"),
@@ -260,14 +260,10 @@ fn reads_lines_of_no_parameter_and_of_two(rt: HostRuntime) -> Result<(), Fail> {
 #[test]
 fn writes_records_after_what_was_written(rt: HostRuntime) -> Result<(), Fail> {
     let columns = columns_of(rt.alloc(), &[("id", Ty::Int), ("sum", Ty::Int)])?;
-    let mut row = Row::new(rt.alloc());
-    row.push(Value::Int(-3))?;
-    row.push(Value::Text(Text::from_str(rt.alloc(), "a \"b\"")?))?;
-
     let head = Vec::from_slice(rt.alloc(), b"rows 2\n")?;
     let mut writer = RecordWriter::new(head);
     writer.write_names(&columns)?;
-    writer.write_row(&row)?;
+    writer.write_cells(&[Cell::Int(-3), Cell::Text("a \"b\"")])?;
     writer.write_cells(&[Cell::Bool(true), Cell::Text("é,"), Cell::Text("")])?;
     writer.write_cells(&[Cell::Text("")])?;
     writer.write_cells(&[Cell::Text("a\nb"), Cell::Text("c\rd"), Cell::Text(" e ")])?;

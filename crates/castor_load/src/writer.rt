@@ -7,7 +7,7 @@ ghost use Rattle.castor_val.specs.Values.{value_of};
 ghost use Rattle.castor_load.specs.Rows.{names_of};
 ghost use Rattle.castor_load.specs.Written.{HasWritten, IsWriting, text_of};
 
-use castor_val::{Cell, Column, Memory, Row, TextBuffer};
+use castor_val::{Cell, Column, Memory, TextBuffer};
 use csv::{Writer, WriterBuilder};
 
 /// A text to whose end records are written, each as the default writer of `csv` writes it. Records
@@ -67,22 +67,6 @@ impl RecordWriter {
     {
         for column in columns {
             put_field(&mut self.writer, column.name.as_str().as_bytes())?;
-        }
-        self.end()
-    }
-
-    /// Writes the record of a row, each value as it is printed. Linear in the printed bytes.
-    ///
-    /// After `Memory` nothing more can be written.
-    pub fn write_row(&mut self, row: &Row) -> Result<(), Memory>
-        requires { IsWriting self.old }
-        ensures writing { OnOk result (IsWriting self.new) }
-        ensures text { OnOk result (text_of self.new
-            ≡ text_of self.old ++ row_text default_writer (map value_text row.now)) }
-    {
-        for value in row.as_slice() {
-            let mut buffer = TextBuffer::new();
-            put_field(&mut self.writer, value.cell().text(&mut buffer).as_bytes())?;
         }
         self.end()
     }

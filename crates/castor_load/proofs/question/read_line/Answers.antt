@@ -1,5 +1,5 @@
 use Rattle.csv.specs.Records.{fields_of}
-use Rattle.castor_load.specs.Rows.{types_of}
+use Rattle.castor_val.specs.Columns.{types_of}
 use Rattle.castor_load.proofs.Fits.{row_of-fits}
 use Rattle.castor_load.proofs.question.read_line.Goals as goal
 

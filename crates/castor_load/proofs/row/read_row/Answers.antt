@@ -1,7 +1,8 @@
 use Rattle.std.proofs.Common.{◌∙◌, ◌∷◌, ◌+◌, [], sym, ap, refl, arith, drop, inr, Ok}
 use Rattle.std.proofs.lemmas.List.{append-nil}
 use Rattle.csv.specs.Records.{fields_of}
-use Rattle.castor_load.specs.Rows.{types_of, values_from}
+use Rattle.castor_val.specs.Columns.{types_of}
+use Rattle.castor_load.specs.Rows.{values_from}
 use Rattle.castor_load.proofs.Rows.{after, after-append, and_more-after, no_field, values_from-at, values_from-end}
 use Rattle.castor_load.proofs.row.read_row.Goals as goal
 

@@ -1,6 +1,7 @@
 use Rattle.std.proofs.Common.{◌≡◌, length, drop}
 use Rattle.csv.specs.Records.{fields_of}
-use Rattle.castor_load.specs.Rows.{row_of, types_of, values_from}
+use Rattle.castor_val.specs.Columns.{types_of}
+use Rattle.castor_load.specs.Rows.{row_of, values_from}
 use Rattle.castor_load.proofs.Rows.{after}
 use Rattle.castor_load.proofs.row.read_row.Given as goal
 

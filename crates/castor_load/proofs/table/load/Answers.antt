@@ -1,9 +1,10 @@
 use Rattle.std.proofs.Common.{◌≡◌, ◌∙◌, ◌∷◌, ◌+◌, [], sym, ap, refl, rules, inl, inr, Ok, Err}
 use Rattle.std.proofs.lemmas.List.{append-nil}
 use Rattle.csv.specs.Reading.{default_config, records, strip_bom}
+use Rattle.castor_val.specs.Columns.{types_of}
 use Rattle.castor_load.specs.Reading.{records_left}
 use Rattle.castor_load.proofs.Fits.{table_of-fits}
-use Rattle.castor_load.specs.Rows.{rows_from, types_of}
+use Rattle.castor_load.specs.Rows.{rows_from}
 use Rattle.castor_load.proofs.Rows.{after, after-append, and_more-after, rows_from-none, rows_from-some}
 use Rattle.castor_load.proofs.table.load.Goals as goal
 

@@ -1,6 +1,7 @@
 use Rattle.std.proofs.Common.{◌≡◌}
+use Rattle.castor_val.specs.Columns.{types_of}
 use Rattle.castor_load.specs.Reading.{IsReading, records_left}
-use Rattle.castor_load.specs.Rows.{rows_from, table_of, types_of}
+use Rattle.castor_load.specs.Rows.{rows_from, table_of}
 use Rattle.castor_load.proofs.Rows.{after}
 use Rattle.castor_load.proofs.table.load.Given as goal
 

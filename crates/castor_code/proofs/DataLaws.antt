@@ -6,7 +6,7 @@ use Rattle.castor_code.specs.declared.code.Code.{Code}
 use Rattle.castor_code.specs.Shapes.{leaf_of, parts_of, rows_of, keyed_of, inner_of}
 use Rattle.castor_code.specs.Directories.{entry_piece, hash_piece, ord_piece}
 use Rattle.castor_code.specs.Readings.{entry_read, hash_offsets, ord_offsets}
-use Rattle.castor_code.specs.Data.{Format, writers, readers, int_format, bool_format, text_format, parts_format, inner_format, list_format, hash_format, ord_format, format_step, format, stored, ReadsData, DataIsTold}
+use Rattle.castor_code.specs.Data.{Format, writers, readers, int_format, bool_format, text_format, parts_format, inner_format, list_format, hash_format, ord_format, format_step, format, data_read, ReadsData, DataIsTold}
 use Rattle.castor_code.proofs.CodeInduction.{With, codes, code_induction, fold-Int, fold-Bool, fold-Text, fold-Cross, fold-Concat, fold-List, fold-Hash, fold-Ord, fold-Select, fold-Filter, fold-Dep, fold-Group, fold-Order, fold-Dedup}
 use Rattle.castor_code.proofs.ValueLaws.{int_again, int_taken, bool_again, bool_taken, text_again, text_taken}
 use Rattle.castor_code.proofs.PartLaws.{Lawful, AllLawful, none, more, parts_again, parts_taken, inner_again, inner_taken, list_again, list_taken, entry_again}
@@ -76,5 +76,5 @@ reads_data c = record { again = λ h rest ok. (lawful c).again h rest ok; taken 
 -- data tells what is held, and where it ends
 pub data_is_told : (c : Code) → DataIsTold c
 data_is_told c h g rest after ok fine is =
-    let parts = some_pair_parts _ _ _ _ (sym ((lawful c).again h rest ok) ∙ ap (stored c) is ∙ (lawful c).again g after fine) in
+    let parts = some_pair_parts _ _ _ _ (sym ((lawful c).again h rest ok) ∙ ap (data_read c) is ∙ (lawful c).again g after fine) in
     (parts.0, parts.1)

@@ -75,11 +75,11 @@ module _ (count body : Range) (offsets : ℕ → ℕ) (one : List ℕ → Read E
       confirmed_taken write (Keyed (sorted key_lt entries.first)) bs rest h entries.answer
 
 module _ (count body : Range) (offsets : ℕ → ℕ) (entry : Entry → Piece) (one : List ℕ → Read Entry) (write : Held → Piece) where
-  index_again : Again entry one → (h : Held) (rest : List ℕ) (es stored : List Entry) (starts : List ℕ) → h ≡ Keyed es → write h ≡ index_piece count body entry es starts stored
-      → (write h).fits ≡ true → length stored ≡ length es → length starts ≡ offsets (length es) → sorted key_lt stored ≡ es
+  index_again : Again entry one → (h : Held) (rest : List ℕ) (es data_read : List Entry) (starts : List ℕ) → h ≡ Keyed es → write h ≡ index_piece count body entry es starts data_read
+      → (write h).fits ≡ true → length data_read ≡ length es → length starts ≡ offsets (length es) → sorted key_lt data_read ≡ es
       → index_read count body offsets one write ((write h).bytes ++ rest) ≡ Some (h, rest)
-  index_again law h rest es stored starts is made ok long all back =
-      let p = one_after_other entry stored in
+  index_again law h rest es data_read starts is made ok long all back =
+      let p = one_after_other entry data_read in
       let o = offset_fields body starts in
       let inner : Piece = record { fits = ascending es && p.fits; bytes = o ++ p.bytes } in
       let outer : Piece = behind_number body (length p.bytes) inner in
@@ -89,7 +89,7 @@ module _ (count body : Range) (offsets : ℕ → ℕ) (entry : Entry → Piece) 
       let good = (and_parts _ _ inside.1).1 in
       let skipped : drop (offsets (length es) * width body.hi) ((o ++ p.bytes) ++ rest) ≡ p.bytes ++ rest =
       ap (drop (offsets (length es) * width body.hi)) (append_assoc o p.bytes rest) ∙ drop_at o (p.bytes ++ rest) _ (length-offsets body starts ∙ ap (λ n. n * width body.hi) all) in
-      let counted : many (length es) one (p.bytes ++ rest) ≡ Some (stored, rest) = ap (λ n. many n one (p.bytes ++ rest)) (sym long) ∙ many_again entry one law stored rest good in
+      let counted : many (length es) one (p.bytes ++ rest) ≡ Some (data_read, rest) = ap (λ n. many n one (p.bytes ++ rest)) (sym long) ∙ many_again entry one law data_read rest good in
       let bs = (write h).bytes ++ rest in
       let first : ranged count bs ≡ Some (length es, outer.bytes ++ rest) = ap (λ (q : Piece). ranged count (q.bytes ++ rest)) made ∙ before_piece count (length es) outer rest fits in
       let second : ranged body (outer.bytes ++ rest) ≡ Some (length p.bytes, (o ++ p.bytes) ++ rest) = before_piece body (length p.bytes) inner rest within.1 in
@@ -105,8 +105,8 @@ in_range : (es : List Entry) (b : ℕ) → 0 < b → list_all (λ (e : Entry). n
 in_range [] b some = refl
 in_range (e ∷ es) b some = and_from _ _ (lt-ltb _ _ (mod-lt _ some)) (in_range es b some)
 
-ascends : (count body : Range) (entry : Entry → Piece) (es stored : List Entry) (starts : List ℕ) → (index_piece count body entry es starts stored).fits ≡ true → ascending es ≡ true
-ascends count body entry es stored starts ok =
+ascends : (count body : Range) (entry : Entry → Piece) (es data_read : List Entry) (starts : List ℕ) → (index_piece count body entry es starts data_read).fits ≡ true → ascending es ≡ true
+ascends count body entry es data_read starts ok =
     let within = and_parts _ _ ok in
     let inside = and_parts _ _ within.1 in
     (and_parts _ _ inside.1).0

@@ -1,5 +1,6 @@
 -- The bytes of codes, and the codes that are well formed.
 use Rattle.std.specs.Prelude.{◌≡◌, ℕ, ℤ, nat_lt, nat_le, ◌==◌, List, [], map, length, Bool, true, false, ◌&&◌, ◌||◌}
+use Rattle.castor_val.specs.Limits.{most_code_nodes, most_depth}
 use Rattle.castor_val.specs.declared.value.Value.{Value}
 use Rattle.castor_val.specs.declared.value.Value.TheVariants.{Int, Bool as Truth, Text}
 use Rattle.castor_alg.specs.declared.expr.Op.{Op}
@@ -187,7 +188,7 @@ code_bytes c = (code_form c).form.bytes
 -- a code is well formed if each of its parts is, it has at most 8,192 nodes, codes and expressions together, and its
 -- depth is at most 64
 abbrev pub is_well_formed : Code → Bool
-is_well_formed c = (code_form c).form.sound && (nat_le (code_form c).form.nodes 8192 && nat_le (code_form c).form.depth 64)
+is_well_formed c = (code_form c).form.sound && (nat_le (code_form c).form.nodes most_code_nodes && nat_le (code_form c).form.depth most_depth)
 
 -- the bytes of two well-formed codes differ
 abbrev pub CodesDiffer : Type 0

@@ -2,6 +2,7 @@
 use Rattle.std.specs.Prelude.{ℕ, zero, suc, ◌-◌, ℤ, nat_lt, nat_le, ◌==◌, List, [], ◌∷◌, take, drop, length, slice_get, Bool, true, false, ◌&&◌, ◌||◌, if◌then◌else◌, Option, Some, None}
 use Rattle.std.specs.Int.{cast_signed, w64}
 use Rattle.std.specs.Str.{is_utf8}
+use Rattle.castor_val.specs.Limits.{most_code_nodes, most_depth}
 use Rattle.castor_val.specs.declared.value.Value.TheVariants.{Int, Bool as Truth, Text}
 use Rattle.castor_alg.specs.declared.expr.Op.{Op}
 use Rattle.castor_alg.specs.declared.expr.Op.TheVariants.{Or, And, Eq, Ne, Lt, Le, Gt, Ge, Add, Sub, Mul, Div, Rem}
@@ -221,4 +222,4 @@ whole o = next o (λ x s. when (length s.bytes == 0) x)
 
 -- the well-formed code that bytes are
 abbrev pub code_of : List ℕ → Option Code
-code_of bytes = whole (code_in 64 (record { bytes = bytes; nodes = 8192 }))
+code_of bytes = whole (code_in most_depth (record { bytes = bytes; nodes = most_code_nodes }))

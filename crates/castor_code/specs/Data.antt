@@ -81,13 +81,13 @@ abbrev pub data_of : Code → Held → List ℕ
 data_of c h = ((format c).write h).bytes
 
 -- the held data whose bytes come first, if such data does, and the bytes after it
-abbrev pub stored : Code → Reader
-stored c = (format c).read
+abbrev pub data_read : Code → Reader
+data_read c = (format c).read
 
 -- data is read as what is held, whatever comes after it, and what is read is data
 pub record ReadsData (c : Code) : Type 0 where
-  pub again : (h : Held) (rest : List ℕ) → fits c h ≡ true → stored c (data_of c h ++ rest) ≡ Some (h, rest)
-  pub taken : (bytes rest : List ℕ) (h : Held) → stored c bytes ≡ Some (h, rest) → (fits c h ≡ true) × (bytes ≡ data_of c h ++ rest)
+  pub again : (h : Held) (rest : List ℕ) → fits c h ≡ true → data_read c (data_of c h ++ rest) ≡ Some (h, rest)
+  pub taken : (bytes rest : List ℕ) (h : Held) → data_read c bytes ≡ Some (h, rest) → (fits c h ≡ true) × (bytes ≡ data_of c h ++ rest)
 
 -- where data of a code begins some bytes, what is held and the bytes after it are known: so at most one held
 -- data has given bytes, and no data is a proper front part of other data of the code

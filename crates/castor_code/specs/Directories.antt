@@ -57,8 +57,8 @@ offset_fields body offsets = flat_map (field body.hi) offsets
 
 -- an index: a field for the number of entries, one for the number of their bytes, the offsets, then the entries
 abbrev pub index_piece : Range → Range → (Entry → Piece) → List Entry → List ℕ → List Entry → Piece
-index_piece count body write es offsets stored =
-    let p = one_after_other write stored in
+index_piece count body write es offsets data_read =
+    let p = one_after_other write data_read in
     behind_number count (length es) (behind_number body (length p.bytes) (record { fits = ascending es && p.fits; bytes = offset_fields body offsets ++ p.bytes }))
 
 abbrev pub hash_piece : Range → Range → (Entry → Piece) → Option (List Entry) → Piece

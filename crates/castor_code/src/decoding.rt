@@ -10,14 +10,8 @@ mod exprs;
 mod numbers;
 
 use crate::code::Code;
-use castor_val::Memory;
+use castor_val::{MAX_CODE_NODES, MAX_DEPTH, Memory};
 use std::alloc::{AllocError, AllocFailed, Global};
-
-/// The most nodes of a code, codes and expressions together.
-pub const MAX_NODES: u64 = 8192;
-
-/// The greatest depth of a code.
-pub const MAX_DEPTH: u8 = 64;
 
 /// Why bytes give no code.
 #[derive(Clone, Copy, Debug, PartialEq, Eq)]
@@ -76,9 +70,9 @@ pub fn decode(alloc: Global, bytes: &[u8]) -> Result<Code, CodeError>
 {
     let mut input = Input {
         rest: bytes,
-        nodes: MAX_NODES,
+        nodes: MAX_CODE_NODES,
     };
-    let code = input.code(alloc, MAX_DEPTH);
+    let code = input.code(alloc, MAX_DEPTH as u8);
     at_end(code, input.rest)
 }
 

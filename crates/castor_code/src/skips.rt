@@ -1,6 +1,7 @@
 //! How many fields are read to pass over data.
 
-ghost use Rattle.std.specs.Prelude.{◌≡◌, ◌-◌, ◌^◌, map, min, sum, true};
+ghost use Rattle.std.specs.Prelude.{◌≡◌, map, min, sum, true};
+ghost use Rattle.castor_val.specs.Limits.{most_count};
 ghost use Rattle.castor_code.specs.CodeForms.{is_well_formed};
 ghost use Rattle.castor_code.specs.Data.{DataIsTold, ReadsData};
 ghost use Rattle.castor_code.specs.Skips.{skip};
@@ -26,7 +27,7 @@ pub fn skip_reads(code: &Code) -> u64
 /// The fields to be read, and 2^64 - 1 where there are more.
 #[cycle(skip)]
 fn skip_of(code: &Code) -> u64
-    ensures { result ≡ min (skip code.now) (2 ^ 64 - 1) }
+    ensures { result ≡ min (skip code.now) most_count }
 {
     match code {
         Code::Int { .. } => 0,
@@ -48,7 +49,7 @@ fn skip_of(code: &Code) -> u64
 
 #[cycle(skip)]
 fn skip_of_all(codes: &[Code]) -> u64
-    ensures { result ≡ min (sum (map skip codes.now)) (2 ^ 64 - 1) }
+    ensures { result ≡ min (sum (map skip codes.now)) most_count }
 {
     let mut reads: u64 = 0;
     for code in codes {

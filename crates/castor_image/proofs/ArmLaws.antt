@@ -8,7 +8,7 @@ use Rattle.castor_alg.specs.declared.rel.Key.{Key}
 use Rattle.castor_code.specs.declared.code.Code.{Code}
 use Rattle.castor_code.specs.declared.code.Code as C
 use Rattle.castor_code.specs.declared.code.Range.{Range}
-use Rattle.castor_code.specs.Data.{Format, format, format_step, stored, int_format, bool_format, text_format, parts_format, inner_format, list_format, hash_format, ord_format}
+use Rattle.castor_code.specs.Data.{Format, format, format_step, data_read, int_format, bool_format, text_format, parts_format, inner_format, list_format, hash_format, ord_format}
 use Rattle.castor_code.proofs.CodeInduction.{fold-Int, fold-Bool, fold-Text, fold-Cross, fold-Concat, fold-List, fold-Hash, fold-Ord, fold-Select, fold-Filter, fold-Dep, fold-Group, fold-Order, fold-Dedup}
 use Rattle.castor_image.specs.declared.error.OpenError.{OpenError}
 use Rattle.castor_image.specs.declared.writing.PutError.{PutError}
@@ -73,5 +73,5 @@ module _ (c : Code) where
   put_node f h old new r is put = subst (λ (g : Format). Puts (g.write h) old new r) (sym is) put
 
   -- what was read by the format was read for the code
-  pub take_node : {T : Type 0} (view : T → Held) (f : Format) (bs left : List ℕ) (r : Result T OpenError) → format c ≡ f → Takes view (f.read bs) left r → Takes view (stored c bs) left r
+  pub take_node : {T : Type 0} (view : T → Held) (f : Format) (bs left : List ℕ) (r : Result T OpenError) → format c ≡ f → Takes view (f.read bs) left r → Takes view (data_read c bs) left r
   take_node {T} view f bs left r is took = subst (λ (g : Format). Takes view (g.read bs) left r) (sym is) took

@@ -16,7 +16,7 @@ use Rattle.castor_code.specs.Steps.{next, when, passing}
 use Rattle.castor_code.proofs.StepLaws.{got, next_of, came, when_holds, let_through}
 use Rattle.castor_code.proofs.PartLaws.{Again, Taken, many_again, many_taken}
 use Rattle.castor_image.specs.declared.head.Head.{Head}
-use Rattle.castor_image.specs.Heads.{type_number, is_between, is_letter, is_digit, is_word_byte, is_name, column_piece, columns_piece, are_params, are_head_columns, only_where, head_piece}
+use Rattle.castor_image.specs.Heads.{type_number, is_between, is_letter, is_digit, is_word_byte, is_head_name, column_piece, columns_piece, are_params, are_head_columns, only_where, head_piece}
 use Rattle.castor_image.specs.HeadReadings.{type_read, utf8_read, name_read, column_read, columns_read, params_read, head_columns_read, head_read}
 
 -- ---- names are ASCII
@@ -40,7 +40,7 @@ words_ascii : (bs : List ℕ) → list_all is_word_byte bs ≡ true → IsAscii 
 words_ascii [] is = IsAscii-nil
 words_ascii (b ∷ bs) is = let tests = and_parts (is_word_byte b) (list_all is_word_byte bs) is in IsAscii-cons b bs (word_below b tests.0) (words_ascii bs tests.1)
 
-name_utf8 : (t : List ℕ) → is_name t ≡ true → is_utf8 t ≡ true
+name_utf8 : (t : List ℕ) → is_head_name t ≡ true → is_utf8 t ≡ true
 name_utf8 [] is = absurd cc
 name_utf8 (b ∷ bs) is =
     let tests = and_parts _ _ (and_parts (is_letter b && list_all is_word_byte bs) _ is).0 in
@@ -62,16 +62,16 @@ utf8_taken n bs rest t is =
       sym (take-append-drop n bs) ∙ ap (λ xs. xs ++ drop n bs) found.value ∙ ap (λ xs. t ++ xs) found.left,
     )
 
-name_again : (t rest : List ℕ) → is_name t ≡ true → name_read (length t ∷ (t ++ rest)) ≡ Some (t, rest)
+name_again : (t rest : List ℕ) → is_head_name t ≡ true → name_read (length t ∷ (t ++ rest)) ≡ Some (t, rest)
 name_again t rest ok = next_of _ _ _ _ (utf8_again t rest (name_utf8 t ok)) ∙ when_holds _ _ ok
 
-name_taken : (bs rest t : List ℕ) → name_read bs ≡ Some (t, rest) → (is_name t ≡ true) × (bs ≡ length t ∷ (t ++ rest))
+name_taken : (bs rest t : List ℕ) → name_read bs ≡ Some (t, rest) → (is_head_name t ≡ true) × (bs ≡ length t ∷ (t ++ rest))
 name_taken [] rest t is = absurd (none-some _ is)
 name_taken (n ∷ bs) rest t is =
-    let b = came (utf8_read n bs) (λ x s. when (is_name x) (x, s)) (t, rest) is in
-    let found = let_through (is_name b.first) b.first t b.left rest b.answer in
+    let b = came (utf8_read n bs) (λ x s. when (is_head_name x) (x, s)) (t, rest) is in
+    let found = let_through (is_head_name b.first) b.first t b.left rest b.answer in
     let text = utf8_taken n bs b.left b.first b.read in (
-      ap is_name (sym found.value) ∙ found.holds,
+      ap is_head_name (sym found.value) ∙ found.holds,
       ap (λ (m : ℕ). m ∷ bs) (sym text.0) ∙ ap (λ (xs : List ℕ). length b.first ∷ xs) text.1 ∙ ap (λ (x : List ℕ). length x ∷ (x ++ b.left)) found.value ∙ ap (λ (xs : List ℕ). length t ∷ (t ++ xs)) found.left,
     )
 
@@ -97,7 +97,7 @@ column_taken bs rest c is =
     let name = came (name_read ty.left) (λ name more. got (record { name = name; ty = ty.first }) more) (c, rest) ty.answer in
     let found = some_pair_parts _ _ _ _ name.answer in
     let text = name_taken ty.left name.left name.first name.read in (
-      ap (λ (x : Column). is_name x.name) (sym found.0) ∙ text.0,
+      ap (λ (x : Column). is_head_name x.name) (sym found.0) ∙ text.0,
       type_taken bs ty.left ty.first ty.read ∙ ap (λ (xs : List ℕ). type_number ty.first ∷ xs) text.1 ∙ ap (λ (x : Column). (column_piece x).bytes ++ name.left) found.0 ∙ ap (λ (xs : List ℕ). (column_piece c).bytes ++ xs) found.1,
     )
 

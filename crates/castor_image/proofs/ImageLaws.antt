@@ -4,7 +4,7 @@ use Rattle.std.proofs.lemmas.Option.{some_pair_parts, none-some}
 use Rattle.castor_alg.specs.declared.held.Held.{Held}
 use Rattle.castor_code.specs.declared.code.Code.{Code}
 use Rattle.castor_code.specs.CodeForms.{code_bytes}
-use Rattle.castor_code.specs.Data.{data_of, fits, stored}
+use Rattle.castor_code.specs.Data.{data_of, fits, data_read}
 use Rattle.castor_code.proofs.DataLaws.{reads_data, data_is_told}
 use Rattle.castor_code.proofs.DecodeLaws.{codes_differ}
 use Rattle.castor_image.specs.declared.head.Head.{Head}
@@ -22,7 +22,7 @@ frame_in c = frame_of c.head (code_bytes c.code) (data_of c.code c.held)
 pub frame_there : (c : Content) (bytes front rest : List ℕ) → IsImageOf c front → bytes ≡ front ++ rest → frame_read bytes ≡ Some (frame_in c, rest)
 frame_there c bytes front rest a is =
     ap frame_read (is ∙ ap (λ xs. xs ++ rest) a.bytes_are)
-    ∙ frame_again c.head (code_bytes c.code) (data_of c.code c.held) rest a.content.head a.lengths.code a.lengths.stored
+    ∙ frame_again c.head (code_bytes c.code) (data_of c.code c.held) rest a.content.head a.lengths.code a.lengths.data_part
 
 frame_whole : (c : Content) (bytes : List ℕ) → IsImageOf c bytes → frame_read bytes ≡ Some (frame_in c, [])
 frame_whole c bytes a = frame_there c bytes bytes [] a (sym (append-nil bytes))
@@ -52,7 +52,7 @@ opened_image f bytes head code held read same layout =
       };
       lengths = record {
         code = subst (λ (xs : List ℕ). is_length (length xs)) layout.code_is frame.code;
-        stored = subst (λ (xs : List ℕ). is_length (length xs)) body frame.stored;
+        data_part = subst (λ (xs : List ℕ). is_length (length xs)) body frame.data_part;
       };
       bytes_are =
           frame.bytes ∙ append-nil (framed f.head f.code f.body)
@@ -73,7 +73,7 @@ no_layout f bytes read none c a =
       formed = a.content.code;
       code_is = ap (λ (g : Frame). g.code) same;
       typed = ap (λ (g : Frame). fits_head c.code g.head) same ∙ a.content.types;
-      data_is = ap (λ (g : Frame). stored c.code g.body) same ∙ ap (stored c.code) (sym (append-nil (data_of c.code c.held))) ∙ (reads_data c.code).again c.held [] a.content.held;
+      data_is = ap (λ (g : Frame). data_read c.code g.body) same ∙ ap (data_read c.code) (sym (append-nil (data_of c.code c.held))) ∙ (reads_data c.code).again c.held [] a.content.held;
     })
 
 -- the frame that a valid image has

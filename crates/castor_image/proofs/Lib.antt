@@ -1,3 +1,4 @@
+pub mod AdjacentLaws
 pub mod ArmLaws
 pub mod BucketLaws
 pub mod FrameLaws
@@ -12,7 +13,6 @@ pub mod PutLaws
 pub mod ReadLaws
 pub mod RunLaws
 pub mod SectionLaws
-pub mod SortLaws
 pub mod TakeLaws
 pub mod TextLaws
 pub mod TypeLaws

@@ -1,6 +1,7 @@
 -- The steps that open an image, from the last to the first.
 use Rattle.std.proofs.Common.{◌≡◌, ◌∙◌, ◌⊎◌, inl, inr, ℕ, List, [], Option, Some, None, Result, Ok, Err, MatchResult, Bool, true, false, ap, sym, refl, subst}
 use Rattle.std.specs.Option.{ok_or}
+use Rattle.castor_val.specs.Columns.{types_of}
 use Rattle.castor_val.specs.Gives.{Gives}
 use Rattle.castor_val.specs.declared.column.Column.{Column}
 use Rattle.castor_val.specs.declared.value.Ty.{Ty}
@@ -11,14 +12,14 @@ use Rattle.castor_alg.proofs.TypingAnswers.{some-from_ok}
 use Rattle.castor_code.specs.declared.code.Code.{Code}
 use Rattle.castor_code.specs.CodeAnswers.{IsNoCode}
 use Rattle.castor_code.specs.CodeForms.{code_bytes, is_well_formed}
-use Rattle.castor_code.specs.Data.{fits, stored}
+use Rattle.castor_code.specs.Data.{fits, data_read}
 use Rattle.castor_code.proofs.DataLaws.{reads_data}
 use Rattle.castor_code.proofs.DecodeLaws.{codes_differ}
 use Rattle.castor_image.specs.declared.error.OpenError.{OpenError}
 use Rattle.castor_image.specs.declared.error.OpenError.TheVariants.{NotImage, Memory}
 use Rattle.castor_image.specs.declared.head.Head.{Head}
 use Rattle.castor_image.specs.Frames.{Frame, IsNoData, IsNoFrame, frame_read}
-use Rattle.castor_image.specs.Images.{IsImageOf, IsNoImage, fits_head, has_types, types_of}
+use Rattle.castor_image.specs.Images.{IsImageOf, IsNoImage, fits_head, has_types}
 use Rattle.castor_image.specs.Opens.{ChecksColumns, IsLayout, Opens}
 use Rattle.castor_image.proofs.ImageLaws.{no_frame, no_layout, opened_image}
 use Rattle.castor_image.proofs.TakeLaws.{Lacks, lacks_more}
@@ -42,10 +43,10 @@ types_refused head code data_part e formed why =
 -- what is no data
 pub data_refused : (head : Head) (code : Code) (data_part : List ℕ) (e : OpenError) → is_well_formed code ≡ true → Lacks e (IsNoData code data_part) → Lacks e (HoldNone head (code_bytes code) data_part)
 data_refused head code data_part e formed why =
-    lacks_more e (λ none d held l. none held (ap (λ (k : Code). stored k data_part) (codes_differ code d formed l.formed l.code_is) ∙ l.data_is)) why
+    lacks_more e (λ none d held l. none held (ap (λ (k : Code). data_read k data_part) (codes_differ code d formed l.formed l.code_is) ∙ l.data_is)) why
 
 -- what is read as data fits
-pub held_fits : (code : Code) (data_part : List ℕ) (held : Held) → stored code data_part ≡ Some (held, []) → fits code held ≡ true
+pub held_fits : (code : Code) (data_part : List ℕ) (held : Held) → data_read code data_part ≡ Some (held, []) → fits code held ≡ true
 held_fits code data_part held is = ((reads_data code).taken data_part [] held is).0
 
 -- what is no frame

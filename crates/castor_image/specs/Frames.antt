@@ -3,7 +3,7 @@ use Rattle.std.specs.Prelude.{◌≡◌, ℕ, List, [], Some}
 use Rattle.std.specs.Str.{bytes_eq}
 use Rattle.castor_alg.specs.declared.held.Held.{Held}
 use Rattle.castor_code.specs.declared.code.Code.{Code}
-use Rattle.castor_code.specs.Data.{stored}
+use Rattle.castor_code.specs.Data.{data_read}
 use Rattle.castor_code.specs.Readings.{Read}
 use Rattle.castor_code.specs.Steps.{next, when}
 use Rattle.castor_fixed.specs.Fields.{number}
@@ -45,4 +45,4 @@ IsNoFrame bs = (f : Frame) → frame_read bs ≡ Some (f, []) → ⊥
 
 -- the bytes are no data of the code
 abbrev pub IsNoData : Code → List ℕ → Type 0
-IsNoData code bs = (h : Held) → stored code bs ≡ Some (h, []) → ⊥
+IsNoData code bs = (h : Held) → data_read code bs ≡ Some (h, []) → ⊥

@@ -7,7 +7,7 @@ use Rattle.castor_val.specs.declared.value.Ty.TheVariants.{Int, Bool as Truth, T
 use Rattle.castor_code.specs.Readings.{Read}
 use Rattle.castor_code.specs.Steps.{next, when, many, passing}
 use Rattle.castor_image.specs.declared.head.Head.{Head}
-use Rattle.castor_image.specs.Heads.{is_name, are_params, are_head_columns}
+use Rattle.castor_image.specs.Heads.{is_head_name, are_params, are_head_columns}
 
 abbrev pub byte_read : List ℕ → Read ℕ
 byte_read [] = None
@@ -37,7 +37,7 @@ abbrev pub utf8_read : ℕ → List ℕ → Read (List ℕ)
 utf8_read n bs = when (nat_le n (length bs) && is_utf8 (take n bs)) (take n bs, drop n bs)
 
 abbrev pub name_read : List ℕ → Read (List ℕ)
-name_read bs = next (byte_read bs) (λ n rest. passing is_name (utf8_read n) rest)
+name_read bs = next (byte_read bs) (λ n rest. passing is_head_name (utf8_read n) rest)
 
 abbrev pub column_read : List ℕ → Read Column
 column_read bs = next (type_read bs) (λ ty rest. next (name_read rest) (λ name more. Some (record { name = name; ty = ty }, more)))

@@ -2,6 +2,7 @@
 use Rattle.std.specs.Prelude.{ℕ, nat_lt, nat_le, List, [], ◌∷◌, map, length, Bool, true, false, not, ◌&&◌, ◌||◌}
 use Rattle.std.specs.List.{list_all}
 use Rattle.std.specs.Str.{bytes_eq}
+use Rattle.castor_val.specs.Limits.{most_columns, most_name_bytes, most_params}
 use Rattle.castor_val.specs.declared.column.Column.{Column}
 use Rattle.castor_val.specs.declared.value.Ty.{Ty}
 use Rattle.castor_val.specs.declared.value.Ty.TheVariants.{Int, Bool as Truth, Text}
@@ -29,13 +30,13 @@ abbrev pub is_word_byte : ℕ → Bool
 is_word_byte b = is_letter b || is_digit b
 
 -- a letter or _, then letters, digits and _, with 1 to 64 bytes
-abbrev pub is_name : List ℕ → Bool
-is_name [] = false
-is_name (b ∷ bs) = (is_letter b && list_all is_word_byte bs) && nat_le (length (b ∷ bs)) 64
+abbrev pub is_head_name : List ℕ → Bool
+is_head_name [] = false
+is_head_name (b ∷ bs) = (is_letter b && list_all is_word_byte bs) && nat_le (length (b ∷ bs)) most_name_bytes
 
 -- a column: the number of its type, the length of its name, and the name
 abbrev pub column_piece : Column → Piece
-column_piece c = record { fits = is_name c.name; bytes = type_number c.ty ∷ length c.name ∷ c.name }
+column_piece c = record { fits = is_head_name c.name; bytes = type_number c.ty ∷ length c.name ∷ c.name }
 
 -- columns behind their number
 abbrev pub columns_piece : List Column → Piece
@@ -51,11 +52,11 @@ names cs = map (λ (c : Column). c.name) cs
 
 -- 0 to 16 parameters, with distinct names
 abbrev pub are_params : List Column → Bool
-are_params ps = nat_le (length ps) 16 && are_distinct (names ps)
+are_params ps = nat_le (length ps) most_params && are_distinct (names ps)
 
 -- 1 to 64 columns
 abbrev pub are_head_columns : List Column → Bool
-are_head_columns cs = nat_lt 0 (length cs) && nat_le (length cs) 64
+are_head_columns cs = nat_lt 0 (length cs) && nat_le (length cs) most_columns
 
 -- a piece, where a condition holds
 abbrev pub only_where : Bool → Piece → Piece

@@ -1,6 +1,6 @@
 -- Images: what they hold, and their bytes.
-use Rattle.std.specs.Prelude.{◌≡◌, ℕ, ◌+◌, nat_le, List, [], ◌∷◌, ◌++◌, map, length, Bool, true, false, Option, Some, None}
-use Rattle.castor_val.specs.declared.column.Column.{Column}
+use Rattle.std.specs.Prelude.{◌≡◌, ℕ, ◌+◌, nat_le, List, [], ◌∷◌, ◌++◌, length, Bool, true, false, Option, Some, None}
+use Rattle.castor_val.specs.Columns.{types_of}
 use Rattle.castor_val.specs.declared.value.Ty.{Ty}
 use Rattle.castor_alg.specs.Typing.{same_types}
 use Rattle.castor_alg.specs.declared.context.Context.{Context}
@@ -29,26 +29,23 @@ length_field n = field 18446744073709551615 n
 
 -- a code and data behind their lengths
 abbrev pub sections : List ℕ → List ℕ → List ℕ
-sections code stored = length_field (length code) ++ (length_field (length stored) ++ (code ++ stored))
+sections code data_part = length_field (length code) ++ (length_field (length data_part) ++ (code ++ data_part))
 
 -- the bytes of a code and of data behind a head
 abbrev pub framed : Head → List ℕ → List ℕ → List ℕ
-framed head code stored = magic ++ (head_bytes head ++ sections code stored)
+framed head code data_part = magic ++ (head_bytes head ++ sections code data_part)
 
 -- an image of any data has so many bytes besides
 abbrev pub IsOverhead : Head → List ℕ → ℕ → Type 0
-IsOverhead head code n = (stored : List ℕ) → length (framed head code stored) ≡ n + length stored
+IsOverhead head code n = (data_part : List ℕ) → length (framed head code data_part) ≡ n + length data_part
 
 -- the bytes of an image
 abbrev pub image_of : Head → Code → Held → List ℕ
 image_of head code held = framed head (code_bytes code) (data_of code held)
 
-abbrev pub types_of : List Column → List Ty
-types_of cs = map (λ (c : Column). c.ty) cs
-
 -- the context of the whole code: the parameters alone
-abbrev pub context_of : Head → Context
-context_of head = record { tables = []; scopes = []; params = types_of head.params }
+abbrev pub head_context : Head → Context
+head_context head = record { tables = []; scopes = []; params = types_of head.params }
 
 -- there are types, and they are these
 abbrev pub has_types : List Ty → Option (List Ty) → Bool
@@ -57,7 +54,7 @@ has_types due (Some types) = same_types types due
 
 -- the code is well typed with the parameters of the head, and gives its columns
 abbrev pub fits_head : Code → Head → Bool
-fits_head code head = has_types (types_of head.columns) (code_types code (context_of head))
+fits_head code head = has_types (types_of head.columns) (code_types code (head_context head))
 
 -- a length of 64 bits
 abbrev pub is_length : ℕ → Type 0
@@ -73,7 +70,7 @@ pub record IsContent (c : Content) : Type 0 where
 -- the lengths of the code and of the data have their fields
 pub record HasLengths (c : Content) : Type 0 where
   pub code : is_length (length (code_bytes c.code))
-  pub stored : is_length (length (data_of c.code c.held))
+  pub data_part : is_length (length (data_of c.code c.held))
 
 -- the bytes are the image of these
 pub record IsImageOf (c : Content) (bytes : List ℕ) : Type 0 where

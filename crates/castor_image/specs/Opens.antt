@@ -1,5 +1,6 @@
 -- What the steps that open an image give.
 use Rattle.std.specs.Prelude.{◌≡◌, ◌⊎◌, ℕ, List, [], Result, MatchResult, Some, true, false}
+use Rattle.castor_val.specs.Columns.{types_of}
 use Rattle.castor_val.specs.declared.column.Column.{Column}
 use Rattle.castor_val.specs.declared.value.Ty.{Ty}
 use Rattle.castor_alg.specs.Typing.{same_types}
@@ -8,18 +9,18 @@ use Rattle.castor_alg.specs.declared.typing.TypeError.{TypeError}
 use Rattle.castor_alg.specs.declared.typing.TypeError.TheVariants as ill
 use Rattle.castor_code.specs.declared.code.Code.{Code}
 use Rattle.castor_code.specs.CodeForms.{code_bytes, is_well_formed}
-use Rattle.castor_code.specs.Data.{stored}
+use Rattle.castor_code.specs.Data.{data_read}
 use Rattle.castor_image.specs.declared.error.OpenError.{OpenError}
 use Rattle.castor_image.specs.declared.error.OpenError.TheVariants.{NotImage, Memory}
 use Rattle.castor_image.specs.declared.head.Head.{Head}
-use Rattle.castor_image.specs.Images.{fits_head, types_of}
+use Rattle.castor_image.specs.Images.{fits_head}
 
 -- a code and held data are those of the bytes behind a head
 pub record IsLayout (head : Head) (code_part data_part : List ℕ) (code : Code) (held : Held) : Type 0 where
   pub formed : is_well_formed code ≡ true
   pub code_is : code_part ≡ code_bytes code
   pub typed : fits_head code head ≡ true
-  pub data_is : stored code data_part ≡ Some (held, [])
+  pub data_is : data_read code data_part ≡ Some (held, [])
 
 -- what the bytes behind a head hold was opened; or they hold nothing, or there was no memory
 abbrev pub Opens : {T : Type 0} → Head → List ℕ → List ℕ → (T → Head) → (T → Code) → (T → Held) → Result T OpenError → Type 0

@@ -1,6 +1,7 @@
 //! The heads of images.
 
 ghost use Rattle.std.specs.Prelude.{◌≡◌, ◌≤◌, ◌++◌, OnOk, length, true};
+ghost use Rattle.castor_val.specs.Limits.{most_columns};
 ghost use Rattle.castor_image.specs.Heads.{column_piece, columns_piece, head_bytes, is_head, type_number};
 
 use castor_val::{Column, Memory, Ty};
@@ -26,7 +27,7 @@ pub(crate) fn put_head(out: &mut Vec<u8>, head: &Head) -> Result<(), Memory>
 
 /// The number of columns, and the columns.
 fn put_columns(out: &mut Vec<u8>, columns: &[Column]) -> Result<(), Memory>
-    requires few { length columns.now ≤ 64 }
+    requires few { length columns.now ≤ most_columns }
     requires names { (columns_piece columns.now).fits ≡ true }
     ensures { OnOk result (out.new.items ≡ out.old.items ++ (columns_piece columns.now).bytes) }
 {

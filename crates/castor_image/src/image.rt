@@ -1,15 +1,16 @@
 //! Images, opened.
 
 ghost use Rattle.std.specs.Prelude.{◌≡◌, ◌⊎◌, [], IfOk, IsTrue, MatchResult, Some, true, false};
+ghost use Rattle.castor_val.specs.Columns.{types_of};
 ghost use Rattle.castor_alg.specs.Typing.{same_types};
 ghost use Rattle.castor_code.specs.CodeAnswers.{IsNoCode};
 ghost use Rattle.castor_code.specs.CodeForms.{code_bytes, is_well_formed};
-ghost use Rattle.castor_code.specs.Data.{fits, stored};
+ghost use Rattle.castor_code.specs.Data.{fits, data_read};
 ghost use Rattle.castor_image.specs.Frames.{IsNoData, IsNoFrame, frame_of, frame_read};
 ghost use Rattle.castor_image.specs.Opens.{ChecksColumns, Opens};
 ghost use Rattle.castor_image.specs.Takes.{Takes};
 ghost use Rattle.castor_image.specs.Heads.{is_head};
-ghost use Rattle.castor_image.specs.Images.{ImagesAreTold, IsImageOf, IsNoImage, context_of, fits_head, types_of};
+ghost use Rattle.castor_image.specs.Images.{ImagesAreTold, IsImageOf, IsNoImage, fits_head, head_context};
 ghost use Rattle.castor_image.specs.declared.error.OpenError.TheVariants as error;
 
 use crate::error::OpenError;
@@ -26,13 +27,13 @@ use std::alloc::Global;
 pub const MAGIC: [u8; 8] = *b"CASTIMG1";
 
 /// An image, opened: a valid head, a well-formed code that fits it, and held data that fits the code and is
-/// stored in bytes of the image.
+/// kept in bytes of the image.
 #[derive(Drop)]
 pub struct Image<'a> {
     head: Head,
     code: Code,
     held: Held,
-    stored: &'a [u8],
+    data_part: &'a [u8],
     pub ghost valid: { IsTrue (is_head head) },
     pub ghost formed: { IsTrue (is_well_formed code) },
     pub ghost typed: { IsTrue (fits_head code head) },
@@ -84,12 +85,12 @@ pub fn open_image<'a>(alloc: Global, bytes: &'a [u8]) -> Result<Image<'a>, OpenE
 struct Frame<'a> {
     head: Head,
     code: &'a [u8],
-    stored: &'a [u8],
+    data_part: &'a [u8],
 }
 
 /// The frame that the bytes are.
 fn open_frame<'a>(alloc: Global, bytes: &'a [u8]) -> Result<Frame<'a>, OpenError>
-    ensures { MatchResult result (λ f. frame_read bytes.now ≡ Some (frame_of f.head f.code.now f.stored.now, [])) (λ e. (e ≡ error.Memory) ⊎ ((e ≡ error.NotImage) × IsNoFrame bytes.now)) }
+    ensures { MatchResult result (λ f. frame_read bytes.now ≡ Some (frame_of f.head f.code.now f.data_part.now, [])) (λ e. (e ≡ error.Memory) ⊎ ((e ≡ error.NotImage) × IsNoFrame bytes.now)) }
 {
     let mut input = Input::new(bytes);
     let frame = input.frame(alloc)?;
@@ -104,26 +105,34 @@ fn open_frame<'a>(alloc: Global, bytes: &'a [u8]) -> Result<Frame<'a>, OpenError
 impl<'a> Input<'a> {
     /// The frame that comes first.
     fn frame(&mut self, alloc: Global) -> Result<Frame<'a>, OpenError>
-        ensures { Takes (λ f. frame_of f.head f.code.now f.stored.now) (frame_read self.old.rest.now) self.new.rest.now result }
+        ensures { Takes (λ f. frame_of f.head f.code.now f.data_part.now) (frame_read self.old.rest.now) self.new.rest.now result }
     {
         self.magic()?;
         let head = self.head(alloc)?;
         let code_length = self.length()?;
         let data_length = self.length()?;
         let code = self.take(code_length)?;
-        let stored = self.take(data_length)?;
-        Ok(Frame { head, code, stored })
+        let data_part = self.take(data_length)?;
+        Ok(Frame {
+            head,
+            code,
+            data_part,
+        })
     }
 }
 
 /// The image of a frame.
 fn open_code<'a>(alloc: Global, frame: Frame<'a>) -> Result<Image<'a>, OpenError>
     requires valid { is_head frame.head ≡ true }
-    ensures { Opens frame.entry.head frame.entry.code.now frame.entry.stored.now (λ i. i.head) (λ i. i.code) (λ i. i.held) result }
+    ensures { Opens frame.entry.head frame.entry.code.now frame.entry.data_part.now (λ i. i.head) (λ i. i.code) (λ i. i.held) result }
 {
-    let Frame { head, code, stored } = frame;
+    let Frame {
+        head,
+        code,
+        data_part,
+    } = frame;
     match well_formed(alloc, code) {
-        Ok(code) => open_typed(alloc, head, code, stored),
+        Ok(code) => open_typed(alloc, head, code, data_part),
         Err(why) => Err(why),
     }
 }
@@ -133,14 +142,14 @@ fn open_typed<'a>(
     alloc: Global,
     head: Head,
     code: Code,
-    stored: &'a [u8],
+    data_part: &'a [u8],
 ) -> Result<Image<'a>, OpenError>
     requires formed { is_well_formed code ≡ true }
     requires valid { is_head head ≡ true }
-    ensures { Opens head (code_bytes code) stored.now (λ i. i.head) (λ i. i.code) (λ i. i.held) result }
+    ensures { Opens head (code_bytes code) data_part.now (λ i. i.head) (λ i. i.code) (λ i. i.held) result }
 {
     match check_types(alloc, &head, &code) {
-        Ok(()) => open_data(alloc, head, code, stored),
+        Ok(()) => open_data(alloc, head, code, data_part),
         Err(why) => Err(why),
     }
 }
@@ -150,19 +159,19 @@ fn open_data<'a>(
     alloc: Global,
     head: Head,
     code: Code,
-    stored: &'a [u8],
+    data_part: &'a [u8],
 ) -> Result<Image<'a>, OpenError>
     requires formed { is_well_formed code ≡ true }
     requires valid { is_head head ≡ true }
     requires typed { fits_head code head ≡ true }
-    ensures { Opens head (code_bytes code) stored.now (λ i. i.head) (λ i. i.code) (λ i. i.held) result }
+    ensures { Opens head (code_bytes code) data_part.now (λ i. i.head) (λ i. i.code) (λ i. i.held) result }
 {
-    match all_data(alloc, &code, stored) {
+    match all_data(alloc, &code, data_part) {
         Ok(held) => Ok(Image {
             head,
             code,
             held,
-            stored,
+            data_part,
         }),
         Err(why) => Err(why),
     }
@@ -189,7 +198,7 @@ fn check_types(alloc: Global, head: &Head, code: &Code) -> Result<(), OpenError>
 
 /// The context of a whole code: the types of the parameters.
 fn head_context(alloc: Global, head: &Head) -> Result<Context, Memory>
-    ensures { IfOk result (λ c. c ≡ context_of head.now) }
+    ensures { IfOk result (λ c. c ≡ head_context head.now) }
 {
     let mut params = Items::new(alloc);
     for param in head.params.as_slice() {
@@ -236,7 +245,7 @@ fn are_of(columns: &[Column], types: &[Ty]) -> bool
 
 /// The held data of a code whose data the bytes are.
 fn all_data(alloc: Global, code: &Code, bytes: &[u8]) -> Result<Held, OpenError>
-    ensures { MatchResult result (λ h. stored code.now bytes.now ≡ Some (h, [])) (λ e. (e ≡ error.Memory) ⊎ ((e ≡ error.NotImage) × IsNoData code.now bytes.now)) }
+    ensures { MatchResult result (λ h. data_read code.now bytes.now ≡ Some (h, [])) (λ e. (e ≡ error.Memory) ⊎ ((e ≡ error.NotImage) × IsNoData code.now bytes.now)) }
 {
     let mut input = Input::new(bytes);
     let held = input.data(alloc, code)?;

@@ -6,9 +6,9 @@
 #![tactic(auto)]
 
 mod building;
-pub mod error;
-pub mod head;
-pub mod image;
+mod error;
+mod head;
+mod image;
 mod names;
 mod reading;
 mod shapes;

@@ -3,16 +3,13 @@
 ghost use Rattle.std.specs.Prelude.{◌≡◌, not};
 ghost use Rattle.std.specs.List.{list_all};
 ghost use Rattle.std.specs.Str.{bytes_eq};
-ghost use Rattle.castor_image.specs.Heads.{are_distinct, is_digit, is_letter, is_name, is_word_byte, names};
+ghost use Rattle.castor_image.specs.Heads.{are_distinct, is_digit, is_letter, is_head_name, is_word_byte, names};
 
-use castor_val::Column;
-
-/// The most bytes of a name.
-const MAX_NAME: usize = 64;
+use castor_val::{Column, MAX_NAME};
 
 /// Whether bytes are a name: a letter or `_`, then letters, digits and `_`, with 1 to 64 bytes.
-pub fn is_name(text: &[u8]) -> bool
-    ensures { result ≡ is_name text.now }
+pub fn is_head_name(text: &[u8]) -> bool
+    ensures { result ≡ is_head_name text.now }
 {
     match text {
         [] => false,

@@ -2,7 +2,7 @@
 
 ghost use Rattle.std.specs.Prelude.{◌≡◌, ◌+◌, ◌∷◌, ◌↔◌, [], IsTrue, map, MatchResult};
 ghost use Rattle.castor_alg.specs.declared.held.Held.{Parts};
-ghost use Rattle.castor_code.specs.Data.{format, readers, stored};
+ghost use Rattle.castor_code.specs.Data.{format, readers, data_read};
 ghost use Rattle.castor_code.specs.Readings.{in_order, inner_read, list_read, parts_read};
 ghost use Rattle.castor_code.specs.Steps.{many};
 ghost use Rattle.castor_image.specs.Takes.{Takes, second_read};
@@ -54,7 +54,7 @@ impl<'a> Input<'a> {
     /// `Memory`. Linear in the bytes that are read, for one code.
     #[cycle(read)]
     pub fn data(&mut self, alloc: Global, code: &Code) -> Result<Held, OpenError>
-        ensures { Takes (λ h. h) (stored code.now self.old.rest.now) self.new.rest.now result }
+        ensures { Takes (λ h. h) (data_read code.now self.old.rest.now) self.new.rest.now result }
     {
         match code {
             Code::Int { lo, hi } => self.int(*lo, *hi),
@@ -92,7 +92,7 @@ impl<'a> Input<'a> {
     /// The second of two parts, whose first is read.
     #[cycle(read)]
     fn second(&mut self, alloc: Global, kid: &Code, first: Held) -> Result<Held, OpenError>
-        ensures { Takes (λ h. h) (second_read first (stored kid.now) self.old.rest.now) self.new.rest.now result }
+        ensures { Takes (λ h. h) (second_read first (data_read kid.now) self.old.rest.now) self.new.rest.now result }
     {
         match self.data(alloc, kid) {
             Ok(part) => pair(alloc, first, part),
@@ -125,7 +125,7 @@ impl<'a> Input<'a> {
 
     #[cycle(read)]
     fn inner(&mut self, alloc: Global, kid: &Code) -> Result<Held, OpenError>
-        ensures { Takes (λ h. h) (inner_read (stored kid.now) self.old.rest.now) self.new.rest.now result }
+        ensures { Takes (λ h. h) (inner_read (data_read kid.now) self.old.rest.now) self.new.rest.now result }
     {
         Ok(Held::Inner(Boxed::new(alloc, self.data(alloc, kid)?)?))
     }
@@ -139,7 +139,7 @@ impl<'a> Input<'a> {
         body: Range,
         kid: &Code,
     ) -> Result<Held, OpenError>
-        ensures { Takes (λ h. h) (list_read count body (stored kid.now) self.old.rest.now) self.new.rest.now result }
+        ensures { Takes (λ h. h) (list_read count body (data_read kid.now) self.old.rest.now) self.new.rest.now result }
     {
         let number = self.ranged(count)?;
         let length = self.ranged(body)?;
@@ -155,7 +155,7 @@ impl<'a> Input<'a> {
     /// So many children of one code.
     #[cycle(read)]
     fn many(&mut self, alloc: Global, kid: &Code, number: u64) -> Result<Items<Held>, OpenError>
-        ensures { Takes (λ hs. hs) (many number (stored kid.now) self.old.rest.now) self.new.rest.now result }
+        ensures { Takes (λ hs. hs) (many number (data_read kid.now) self.old.rest.now) self.new.rest.now result }
     {
         let mut rows = Items::new(alloc);
         for _ in 0..number {
@@ -171,7 +171,7 @@ impl<'a> Input<'a> {
     /// A child, which is counted where it takes no bytes.
     #[cycle(read)]
     fn child(&mut self, alloc: Global, kid: &Code) -> Result<Held, OpenError>
-        ensures { Takes (λ h. h) (stored kid.now self.old.rest.now) self.new.rest.now result }
+        ensures { Takes (λ h. h) (data_read kid.now self.old.rest.now) self.new.rest.now result }
     {
         let before = self.rest.len();
         let row = self.data(alloc, kid)?;

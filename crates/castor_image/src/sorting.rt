@@ -6,7 +6,7 @@ ghost use Rattle.castor_code.specs.Directories.{ascending, key_lt};
 ghost use Rattle.castor_val.specs.Values.{row_cmp};
 
 use castor_alg::Entry;
-use castor_val::{Memory, Value, compare};
+use castor_val::{Memory, compare_values};
 use std::cmp::Ordering;
 
 /// Sorts entries by their keys, stably. Of the order n log n in the entries.
@@ -33,24 +33,4 @@ fn compare_keys(a: &Entry, b: &Entry) -> Ordering
     ensures { result ≡ row_cmp a.now.key b.now.key }
 {
     compare_values(a.key.as_slice(), b.key.as_slice())
-}
-
-/// How two keys are ordered: by the first value in which they differ, a key before its extensions.
-fn compare_values(a: &[Value], b: &[Value]) -> Ordering
-    ensures { result ≡ row_cmp a.now b.now }
-{
-    match a {
-        [] => match b {
-            [] => Ordering::Equal,
-            [_, ..] => Ordering::Less,
-        },
-        [x, xs @ ..] => match b {
-            [] => Ordering::Greater,
-            [y, ys @ ..] => match compare(x.cell(), y.cell()) {
-                Ordering::Less => Ordering::Less,
-                Ordering::Equal => compare_values(xs, ys),
-                Ordering::Greater => Ordering::Greater,
-            },
-        },
-    }
 }

@@ -15,12 +15,9 @@ mod lists;
 use castor_alg::expr_typing::{expr_type_in, is_context, is_of};
 use castor_alg::{Bound, Context, Expr, TypeEnv, TypeError};
 use castor_code::Code;
-use castor_val::Ty;
+use castor_val::{MAX_HASH_COLUMNS, Ty};
 use lists::{are_same_types, common_types, cross_types, group_types, order_types, within_limits};
 use std::alloc::Global;
-
-/// The most key columns of a hash index.
-const MAX_HASH_COLUMNS: usize = 4;
 
 /// The column types of a code under a context. `Ill` comes exactly where it isn't well typed there. Linear in
 /// the code times the number of columns, and the scopes in force for each node that reads one.

@@ -1,4 +1,4 @@
--- The bodies of binders over what is stored for their rows and keys.
+-- The bodies of binders over what is held for their rows and keys.
 use Rattle.std.proofs.Common.{◌≡◌, ◌∙◌, List, [], ◌∷◌, ◌++◌, map, filter, cond, refl, sym, ap, Bool, true, false, ◌&&◌, ◌||◌, if◌then◌else◌, Result, Ok, Err}
 use Rattle.std.specs.List.{flat_map, list_any}
 use Rattle.castor_val.specs.declared.fault.Faults.{Faults}
@@ -17,10 +17,10 @@ use Rattle.castor_laws.proofs.DistinctLaws.{same_row-IsEqualityTest}
 use Rattle.castor_laws.proofs.FilterLaws.{list_any-distinct}
 use Rattle.castor_laws.proofs.OperatorLaws.{sorted_permutes}
 use Rattle.castor_laws.proofs.PermutationLaws.{list_any-permutes}
-use Rattle.castor_stage.specs.declared.held_out.HeldOut.{HeldOut}
-use Rattle.castor_stage.specs.HeldData.{entry, keys_of}
+use Rattle.castor_laws.proofs.SortingLaws.{rows_order}
+use Rattle.castor_alg.specs.declared.held_out.HeldOut.{HeldOut}
+use Rattle.castor_alg.specs.HeldData.{entry, keys_of}
 use Rattle.castor_code.specs.LayoutMeaning.{CodeMeaning, child_under, entries_within, looked_up, nothing, ranged_over}
-use Rattle.castor_stage.proofs.OrderLaws.{rows_order}
 use Rattle.castor_ltype.proofs.FaultLaws.{none_left, none_right}
 use Rattle.castor_ltype.proofs.SortedFilterLaws.{sorted-filter}
 
@@ -43,7 +43,7 @@ faults_along f xs = λ i. record {
 joined : (f : Row → Out) (r : Out) → r.faults ≡ no_faults → concatenated (map f r.rows) ≡ depjoined f r
 joined f r none = λ i. record { rows = rows_along f r.rows i; faults = (faults_along f r.rows ∙ sym (ap (λ (g : Faults). union g (union_over (λ a. (f a).faults) r.rows)) none)) i }
 
--- what is stored under each row, and what the body means under it
+-- what is held under each row, and what the body means under it
 module _ (hold : Row → HeldOut) (mean : Held → Out) (body : Row → Out) (each : (a : Row) → (hold a).faults ≡ no_faults → mean (hold a).held ≡ body a) where
   pub rows_mean : (rows : List Row) → union_over (λ a. (hold a).faults) rows ≡ no_faults → map mean (map (λ a. (hold a).held) rows) ≡ map body rows
   rows_mean [] none = refl

@@ -22,10 +22,10 @@ use Rattle.castor_alg.proofs.TypingLaws.{scope_types-extended}
 use Rattle.castor_laws.specs.Fitting.{answer_fits}
 use Rattle.castor_laws.proofs.RowFitLaws.{rows_fit_types}
 use Rattle.castor_laws.proofs.ValueFitLaws.{AllFit, values_fit_types}
-use Rattle.castor_stage.specs.declared.phase.Phase.{Phase}
-use Rattle.castor_stage.specs.declared.phase.Phase.TheVariants.{Build, Run}
-use Rattle.castor_stage.specs.Stages.{Phases, bind_phase, expr_stage, stage_under}
-use Rattle.castor_ltype.proofs.PhaseLaws.{AgreeAt, expr_rests, rel_rests}
+use Rattle.castor_alg.specs.declared.phase.Phase.{Phase}
+use Rattle.castor_alg.specs.declared.phase.Phase.TheVariants.{Build, Run}
+use Rattle.castor_alg.specs.Stages.{Phases, bind_phase, expr_stage, stage_under}
+use Rattle.castor_stage.proofs.PhaseLaws.{AgreeAt, expr_rests, rel_rests}
 
 abbrev default_value : Ty → Value
 default_value ty.Int = Int (pos 0)

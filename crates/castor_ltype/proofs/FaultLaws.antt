@@ -7,7 +7,7 @@ use Rattle.castor_val.specs.declared.fault.Faults.{Faults}
 use Rattle.castor_val.specs.declared.row.Row.{Row}
 use Rattle.castor_val.specs.declared.value.Value.{Value}
 use Rattle.castor_val.specs.declared.value.Value.TheVariants.{Int, Bool as Truth, Text}
-use Rattle.castor_val.specs.Values.{class, division_fault, is_int, no_faults, overflow_fault, union, value_cmp}
+use Rattle.castor_val.specs.Values.{class, division_fault, has_faults, is_int, no_faults, overflow_fault, union, value_cmp}
 use Rattle.castor_alg.specs.declared.expr.Expr.{Expr}
 use Rattle.castor_alg.specs.declared.expr.Op.{Op}
 use Rattle.castor_alg.specs.declared.expr.Op.TheVariants.{Or, And, Eq, Ne, Lt, Le, Gt, Ge, Add, Sub, Mul, Div, Rem}
@@ -15,7 +15,6 @@ use Rattle.castor_alg.specs.Expression.{Answer, apply, both_sides, choice, chose
 use Rattle.castor_alg.specs.Rows.{faults_in, union_over}
 use Rattle.castor_alg.specs.Scopes.{Scopes}
 use Rattle.castor_alg.proofs.ExprInduction.{expr_induction}
-use Rattle.castor_stage.specs.HeldData.{has_faults}
 use Rattle.castor_laws.proofs.ExprClauseLaws.{expr_value-Col, expr_value-Scope, expr_value-Param, expr_value-Lit, expr_value-Bin, expr_value-Not, expr_value-If}
 
 or_left : (a b : Bool) → (a || b) ≡ false → a ≡ false

@@ -30,10 +30,10 @@ use Rattle.castor_laws.specs.Fitting.{answer_fits}
 use Rattle.castor_laws.proofs.EachLaws.{Each, none, one, each_flat_map, each_map, each_weaker}
 use Rattle.castor_laws.proofs.TypePartLaws.{both_parts}
 use Rattle.castor_laws.proofs.ValueFitLaws.{AllFit}
-use Rattle.castor_stage.specs.declared.held_out.HeldOut.{HeldOut}
-use Rattle.castor_stage.specs.declared.phase.Phase.TheVariants.{Build, Run}
-use Rattle.castor_stage.specs.HeldData.{entry, held_under, leaf, parted, within as inside}
-use Rattle.castor_stage.specs.Stages.{Phases, Staging, bind_phase, expr_stage, in_turn, stage_under}
+use Rattle.castor_alg.specs.declared.held_out.HeldOut.{HeldOut}
+use Rattle.castor_alg.specs.declared.phase.Phase.TheVariants.{Build, Run}
+use Rattle.castor_alg.specs.HeldData.{entry, held_under, leaf, parted, within as inside}
+use Rattle.castor_alg.specs.Stages.{Phases, Staging, bind_phase, expr_stage, in_turn, stage_under}
 use Rattle.castor_stage.proofs.HoldingLaws.{holding-DepJoin, holding-List}
 use Rattle.castor_stage.proofs.WalkLaws.{both_left, both_right}
 use Rattle.castor_code.specs.declared.code.Code.{Code}

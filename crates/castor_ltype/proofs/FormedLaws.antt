@@ -19,8 +19,8 @@ use Rattle.castor_laws.proofs.ColumnCountLaws.{extended-is_context, has_columns}
 use Rattle.castor_laws.proofs.EachLaws.{Each, one}
 use Rattle.castor_laws.proofs.TypeClauseLaws.{types_under-Scalar, types_under-Cross, types_under-Concat, types_under-Select, types_under-Filter, types_under-DepJoin, types_under-Group, types_under-Order, types_under-Dedup, types_under-List, types_under-Hash, types_under-Ord}
 use Rattle.castor_laws.proofs.TypePartLaws.{allowed_parts, and_then_parts, both_parts, if_parts, is_of-equal, limited_parts, map_parts, same_types-equal}
-use Rattle.castor_stage.specs.declared.phase.Phase.TheVariants.{Build, Run}
-use Rattle.castor_stage.specs.Stages.{Phases, Staging, bind_phase, bound_stage, in_turn, no_phases, stage_step, stage_under}
+use Rattle.castor_alg.specs.declared.phase.Phase.TheVariants.{Build, Run}
+use Rattle.castor_alg.specs.Stages.{Phases, Staging, bind_phase, bound_stage, in_turn, no_phases, stage_step, stage_under}
 use Rattle.castor_stage.proofs.WalkLaws.{both_left, both_right}
 use Rattle.castor_code.specs.declared.code.Code.{Code}
 use Rattle.castor_code.specs.declared.code.Code as C
@@ -42,7 +42,7 @@ use Rattle.castor_ltype.proofs.CodeFormLaws.{concat_bounded, cross_bounded, dedu
 use Rattle.castor_ltype.proofs.ColumnFormLaws.{group_formed, order_formed, selected_formed}
 use Rattle.castor_ltype.proofs.ExprFormLaws.{bound_formed, each_length, expr_formed, exprs_formed, some_nodes}
 use Rattle.castor_ltype.proofs.GeneratorLaws.{code-Scalar, code-Cross, code-Concat, code-Select, code-Filter, code-DepJoin, code-Group, code-Order, code-Dedup, code-List, code-Hash, code-Ord, codes_of_parts}
-use Rattle.castor_ltype.proofs.PhaseLaws.{here}
+use Rattle.castor_stage.proofs.PhaseLaws.{here}
 
 -- each relation has a node and a level
 record HasNode (q : Rel) : Type 0 where

@@ -30,10 +30,10 @@ use Rattle.castor_laws.proofs.PermutationLaws.{each_permutes, permutes_sym}
 use Rattle.castor_laws.proofs.TypeClauseLaws.{types_under-Scalar, types_under-Cross, types_under-Concat, types_under-Select, types_under-Filter, types_under-DepJoin, types_under-Group, types_under-Order, types_under-Dedup, types_under-List, types_under-Hash, types_under-Ord}
 use Rattle.castor_laws.proofs.TypePartLaws.{and_then_parts, if_parts, limited_parts, map_parts}
 use Rattle.castor_laws.proofs.ValueFitLaws.{AllFit}
-use Rattle.castor_stage.specs.declared.held_out.HeldOut.{HeldOut}
-use Rattle.castor_stage.specs.declared.phase.Phase.TheVariants.{Build, Run}
-use Rattle.castor_stage.specs.HeldData.{entry, held_under, keyed, keys_of}
-use Rattle.castor_stage.specs.Stages.{Phases, Staging, bind_phase, bound_stage, no_phases, stage_step, stage_under}
+use Rattle.castor_alg.specs.declared.held_out.HeldOut.{HeldOut}
+use Rattle.castor_alg.specs.declared.phase.Phase.TheVariants.{Build, Run}
+use Rattle.castor_alg.specs.HeldData.{entry, held_under, keyed, keys_of}
+use Rattle.castor_alg.specs.Stages.{Phases, Staging, bind_phase, bound_stage, no_phases, stage_step, stage_under}
 use Rattle.castor_stage.proofs.HoldingLaws.{holding-Scalar, holding-Cross, holding-Concat, holding-Select, holding-Filter, holding-Group, holding-Order, holding-Dedup, holding-Hash, holding-Ord}
 use Rattle.castor_stage.proofs.KeyLaws.{strict_keys}
 use Rattle.castor_stage.proofs.WalkLaws.{both_left, both_right}
@@ -57,7 +57,7 @@ use Rattle.castor_ltype.proofs.PieceLaws.{piece-Concat, piece-Cross, piece-Dedup
 use Rattle.castor_ltype.proofs.RangeLaws.{each_both, each_unflat, each_unmap}
 use Rattle.castor_ltype.proofs.FitLaws.{Child, EntryStands, Fine, FitsAll, Stands, ValueFits, Valued, along_fits, depjoin_fits, entries_stand, fine_by, inner_fits, keys_ascend, leaf_clean, list_fits, numbers_of, parts_fit, scalar_fits, scalar_stands, values_fit}
 use Rattle.castor_ltype.proofs.MeaningLaws.{held_is}
-use Rattle.castor_ltype.proofs.PhaseLaws.{here}
+use Rattle.castor_stage.proofs.PhaseLaws.{here}
 
 -- the entries of an index
 record Indexed (s : Rel) (scopes : Phases) (context : Context) (k : ℕ) (columns : List Ty) (ts : List Table) (h : Held) : Type 0 where

@@ -121,10 +121,10 @@ length-offsets body (x ∷ xs) =
     more : (w n : ℕ) → w + n * w ≡ suc n * w
     more w n = omega arith
 
-index_size : (count body : Range) (write : Entry → Piece) (es : List Entry) (offsets : List ℕ) (stored : List Entry) (n : ℕ) → length offsets ≡ n → length (one_after_other write stored).bytes ≡ size write es
-    → ((range_bytes count + range_bytes body) + n * width body.hi) + size write es ≡ length (index_piece count body write es offsets stored).bytes
-index_size count body write es offsets stored n many same =
-    let p = one_after_other write stored in
+index_size : (count body : Range) (write : Entry → Piece) (es : List Entry) (offsets : List ℕ) (written : List Entry) (n : ℕ) → length offsets ≡ n → length (one_after_other write written).bytes ≡ size write es
+    → ((range_bytes count + range_bytes body) + n * width body.hi) + size write es ≡ length (index_piece count body write es offsets written).bytes
+index_size count body write es offsets written n many same =
+    let p = one_after_other write written in
     let directory = length-offsets body offsets ∙ ap (λ m. m * width body.hi) many in
     let front = length-append (ranged_field count (length es)) (ranged_field body (length p.bytes) ++ (offset_fields body offsets ++ p.bytes)) in
     let middle = length-append (ranged_field body (length p.bytes)) (offset_fields body offsets ++ p.bytes) in

@@ -22,7 +22,7 @@ use Rattle.castor_alg.specs.Sorting.{sorted_by}
 use Rattle.castor_code.specs.declared.code.Code.{Code}
 use Rattle.castor_code.specs.declared.code.Code as C
 use Rattle.castor_code.specs.declared.code.Range.{Range}
-use Rattle.castor_code.specs.LayoutMeaning.{CodeMeaning, all_in, dep_over, layout_meaning, layout_step, looked_up, over_inner, over_parts, ranged_over, stored_row}
+use Rattle.castor_code.specs.LayoutMeaning.{CodeMeaning, all_in, dep_over, layout_meaning, layout_step, looked_up, over_inner, over_parts, ranged_over, value_row}
 use Rattle.castor_code.specs.Shapes.{leaf_of}
 use Rattle.castor_code.proofs.CodeInduction.{fold-Int, fold-Bool, fold-Text, fold-Cross, fold-Concat, fold-List, fold-Hash, fold-Ord, fold-Select, fold-Filter, fold-Dep, fold-Group, fold-Order, fold-Dedup}
 use Rattle.castor_code.proofs.ShapeLaws.{inner_of-Inner, keyed_of-Keyed, parts_of-Parts, rows_of-Rows}
@@ -38,12 +38,12 @@ module _ (env : Scopes) (p : Row) where
     abbrev here : CodeMeaning → Out
     here m = m h env p
 
-    layout-int : (zs : List ℤ) → meant (int_code zs) h ≡ stored_row (leaf_of h)
+    layout-int : (zs : List ℤ) → meant (int_code zs) h ≡ value_row (leaf_of h)
     layout-int [] = ap here (fold-Int CodeMeaning layout_step (pos 0) (pos 0))
     layout-int (z ∷ zs) = ap here (fold-Int CodeMeaning layout_step (fold lesser z zs) (fold greater z zs))
 
     -- one row of the value, by any code of values
-    pub layout-scalar : (t : Option Ty) (values : List (Option Value)) → meant (scalar_code t values) h ≡ stored_row (leaf_of h)
+    pub layout-scalar : (t : Option Ty) (values : List (Option Value)) → meant (scalar_code t values) h ≡ value_row (leaf_of h)
     layout-scalar (Some ty.Int) values = layout-int (flat_map int_in values)
     layout-scalar (Some ty.Bool) values = ap here (fold-Bool CodeMeaning layout_step)
     layout-scalar (Some ty.Text) values = ap here (fold-Text CodeMeaning layout_step _ _)

@@ -17,7 +17,6 @@ pub mod LayoutLaws
 pub mod LoopLaws
 pub mod MeaningLaws
 pub mod PartLaws
-pub mod PhaseLaws
 pub mod PieceLaws
 pub mod RangeLaws
 pub mod ScalarLaws

@@ -2,7 +2,7 @@
 use Rattle.std.proofs.Common.{◌≡◌, ◌∙◌, ℕ, List, [], ◌∷◌, map, refl, sym, ap, Bool, true, false, ◌+◌, if◌then◌else◌, Ok, Err}
 use Rattle.castor_val.specs.declared.row.Row.{Row}
 use Rattle.castor_val.specs.declared.table.Table.{Table}
-use Rattle.castor_val.specs.Values.{no_faults, union}
+use Rattle.castor_val.specs.Values.{has_faults, no_faults, union}
 use Rattle.castor_alg.specs.declared.context.Context.{Context}
 use Rattle.castor_alg.specs.declared.expr.Expr.{Expr}
 use Rattle.castor_alg.specs.declared.held.Held.{Held, Leaf}
@@ -19,14 +19,14 @@ use Rattle.castor_alg.specs.Sorting.{sorted_by}
 use Rattle.castor_alg.specs.Typing.{type_under}
 use Rattle.castor_alg.proofs.RelInduction.{With, relations, rel_induction, fold-Table, fold-Scalar, fold-Cross, fold-Concat, fold-Select, fold-Filter, fold-Join, fold-DepJoin, fold-Group, fold-Order, fold-Dedup, fold-List, fold-Hash, fold-Ord}
 use Rattle.castor_laws.proofs.RelClauseLaws.{meaning-Scalar, meaning-Cross, meaning-Concat, meaning-Select, meaning-Filter, meaning-DepJoin, meaning-Group, meaning-Order, meaning-Dedup, meaning-List, meaning-Hash, meaning-Ord}
-use Rattle.castor_stage.specs.declared.held_out.HeldOut.{HeldOut}
-use Rattle.castor_stage.specs.declared.phase.Phase.TheVariants.{Build, Run}
-use Rattle.castor_stage.specs.HeldData.{has_faults, held_data, held_under, leaf}
-use Rattle.castor_stage.specs.Stages.{Phases, Staging, bind_phase, bound_stage, in_turn, no_phases, stage_step, stage_under}
+use Rattle.castor_alg.specs.declared.held_out.HeldOut.{HeldOut}
+use Rattle.castor_alg.specs.declared.phase.Phase.TheVariants.{Build, Run}
+use Rattle.castor_alg.specs.HeldData.{held_data, held_under, leaf}
+use Rattle.castor_alg.specs.Stages.{Phases, Staging, bind_phase, bound_stage, in_turn, no_phases, stage_step, stage_under}
 use Rattle.castor_stage.proofs.HoldingLaws.{holding-Scalar, holding-Cross, holding-Concat, holding-Select, holding-Filter, holding-DepJoin, holding-Group, holding-Order, holding-Dedup, holding-List, holding-Hash, holding-Ord}
 use Rattle.castor_stage.proofs.WalkLaws.{both_left, both_right}
 use Rattle.castor_code.specs.declared.code.Code.{Code}
-use Rattle.castor_code.specs.LayoutMeaning.{layout_meaning, over_parts, stored_row}
+use Rattle.castor_code.specs.LayoutMeaning.{layout_meaning, over_parts, value_row}
 use Rattle.castor_code.specs.Shapes.{leaf_of}
 use Rattle.castor_code.proofs.ShapeLaws.{leaf_of-Leaf}
 use Rattle.castor_ltype.specs.Generation.{code_over}
@@ -36,7 +36,7 @@ use Rattle.castor_ltype.proofs.BinderLaws.{hash_means, list_means, ord_means}
 use Rattle.castor_ltype.proofs.FaultLaws.{has_value, none_by_test, none_left, none_right}
 use Rattle.castor_ltype.proofs.GeneratorLaws.{code-Scalar, code-Cross, code-Concat, code-Select, code-Filter, code-DepJoin, code-Group, code-Order, code-Dedup, code-List, code-Hash, code-Ord, codes_of_parts}
 use Rattle.castor_ltype.proofs.LayoutLaws.{layout-scalar, layout-Cross, layout-Concat, layout-Select, layout-Filter, layout-Dep, layout-Group, layout-Order, layout-Dedup, layout-List, layout-Hash, layout-Ord}
-use Rattle.castor_ltype.proofs.PhaseLaws.{AgreeAt, agree_both, agree_one, agree_other, expr_rests, exprs_rest, here, lower_rests, rel_rests, upper_rests}
+use Rattle.castor_stage.proofs.PhaseLaws.{AgreeAt, agree_both, agree_one, agree_other, expr_rests, exprs_rest, here, lower_rests, rel_rests, upper_rests}
 
 -- what is held in a place: under rows of the scopes that are known at build, which are those that are meant. The layout is read under
 -- the rows that are meant of the scopes that are known at run
@@ -60,13 +60,13 @@ leaf_clean : (answer : Answer) → (leaf answer).faults ≡ no_faults → faults
 leaf_clean (Ok v) none = none
 leaf_clean (Err f) none = none
 
-scalar_means : (e : Expr) (known : Scopes) (v : Row) (asked : Scopes) (p : Row) (code : Code) → ((h : Held) → layout_meaning code h asked p ≡ stored_row (leaf_of h)) → (leaf (expr_value e [] known v)).faults ≡ no_faults
+scalar_means : (e : Expr) (known : Scopes) (v : Row) (asked : Scopes) (p : Row) (code : Code) → ((h : Held) → layout_meaning code h asked p ≡ value_row (leaf_of h)) → (leaf (expr_value e [] known v)).faults ≡ no_faults
     → layout_meaning code (leaf (expr_value e [] known v)).held asked p ≡ single (put_front (expr_value e [] known v) (Ok []))
 scalar_means e known v asked p code reads none =
     let found = has_value e [] known v (leaf_clean (expr_value e [] known v) none) in
     ap (λ (answer : Answer). layout_meaning code (leaf answer).held asked p) found.1
     ∙ reads (Leaf found.0)
-    ∙ ap stored_row (leaf_of-Leaf found.0)
+    ∙ ap value_row (leaf_of-Leaf found.0)
     ∙ ap (λ (answer : Answer). single (put_front answer (Ok []))) (sym found.1)
 
 operands_mean : (rs : List (With MeansIt)) (i : ℕ) (scopes : Phases) (env known asked run : Scopes) (ts : List Table) (p v : Row) (context : Context) (hs : List Held)

@@ -1,4 +1,4 @@
--- What held data is stored as under each code, over what its parts are stored as.
+-- What held data is written as under each code, over what its parts are written as.
 use Rattle.std.proofs.Common.{◌≡◌, ◌∙◌, ℕ, ℤ, List, [], ◌∷◌, map, ap, sym, refl, length, Option, Some, None}
 use Rattle.castor_val.specs.declared.value.Value.{Value}
 use Rattle.castor_alg.specs.declared.expr.Expr.{Expr}

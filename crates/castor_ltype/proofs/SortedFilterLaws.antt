@@ -4,7 +4,7 @@ use Rattle.std.specs.Cmp.{IsStrictWeakOrder}
 use Rattle.std.specs.List.Sorted.{ties}
 use Rattle.castor_alg.specs.Sorting.{sorted}
 use Rattle.castor_laws.proofs.DistinctLaws.{filters_commute}
-use Rattle.castor_eval.proofs.SortLaws.{Above, Up, empty, also, done, next, same_sorted, stable_sorted, up_sorted}
+use Rattle.castor_laws.proofs.SortingLaws.{Above, Up, empty, also, done, next, same_sorted, stable_sorted, up_sorted}
 
 module _ {X : Type 0} (lt : X → X → Bool) (o : IsStrictWeakOrder lt) (within : X → Bool) where
   kept_above : (a x : X) (xs : List X) (b : Bool) → lt x a ≡ false → Above lt o a xs → Above lt o a (cond b (x ∷ xs) xs)

@@ -20,9 +20,9 @@ use Rattle.castor_alg.proofs.TypingLaws.{scope_types-extended}
 use Rattle.castor_laws.proofs.ColumnCountLaws.{extended-is_context, has_columns}
 use Rattle.castor_laws.proofs.TypeClauseLaws.{type_under-Col, type_under-Scope, type_under-Param, type_under-Lit, type_under-Bin, type_under-Not, type_under-If, types_under-Scalar, types_under-Cross, types_under-Concat, types_under-Select, types_under-Filter, types_under-DepJoin, types_under-Group, types_under-Order, types_under-Dedup, types_under-List, types_under-Hash, types_under-Ord}
 use Rattle.castor_laws.proofs.TypePartLaws.{and_then_parts, both_parts, if_parts, limited_parts, map_parts}
-use Rattle.castor_stage.specs.declared.phase.Phase.{Phase}
-use Rattle.castor_stage.specs.declared.phase.Phase.TheVariants.{Build, Run}
-use Rattle.castor_stage.specs.Stages.{Phases, Staging, bind_phase, bound_stage, expr_stage, expr_stage_step, exprs_stage, in_turn, no_phases, stage_step, stage_under}
+use Rattle.castor_alg.specs.declared.phase.Phase.{Phase}
+use Rattle.castor_alg.specs.declared.phase.Phase.TheVariants.{Build, Run}
+use Rattle.castor_alg.specs.Stages.{Phases, Staging, bind_phase, bound_stage, expr_stage, expr_stage_step, exprs_stage, in_turn, no_phases, stage_step, stage_under}
 use Rattle.castor_stage.proofs.WalkLaws.{both_left, both_right}
 use Rattle.castor_code.specs.declared.code.Code.{Code, fold-Code}
 use Rattle.castor_code.specs.CodeTyping.{code_types_step}
@@ -34,7 +34,7 @@ use Rattle.castor_ltype.specs.Layouts.{HasTypes}
 use Rattle.castor_ltype.specs.Places.{entries, int_in, key_value, part}
 use Rattle.castor_ltype.specs.Ranges.{greater, int_code, lesser}
 use Rattle.castor_ltype.proofs.GeneratorLaws.{body_code, code-Scalar, code-Cross, code-Concat, code-Select, code-Filter, code-DepJoin, code-Group, code-Order, code-Dedup, code-List, code-Hash, code-Ord, codes_of_parts}
-use Rattle.castor_ltype.proofs.PhaseLaws.{here, known_scope}
+use Rattle.castor_stage.proofs.PhaseLaws.{here, known_scope}
 
 -- two contexts have the same parameters, and the same columns for each scope that is known at run
 pub record AgreeTypes (scopes : Phases) (context other : Context) : Type 0 where

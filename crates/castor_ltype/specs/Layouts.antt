@@ -1,5 +1,6 @@
 -- What the code for a query is to what is held for it.
 use Rattle.std.specs.Prelude.{◌≡◌, ◌≤◌, List, true, Some, Ok}
+use Rattle.castor_val.specs.Limits.{most_depth, most_query_nodes}
 use Rattle.castor_val.specs.declared.row.Row.{Row}
 use Rattle.castor_val.specs.declared.table.Table.{Table}
 use Rattle.castor_val.specs.declared.value.Ty.{Ty}
@@ -16,8 +17,8 @@ use Rattle.castor_code.specs.CodeForms.{is_well_formed}
 use Rattle.castor_code.specs.CodeTyping.{code_types}
 use Rattle.castor_code.specs.Data.{fits}
 use Rattle.castor_code.specs.LayoutMeaning.{layout_meaning}
-use Rattle.castor_stage.specs.HeldData.{held_data}
-use Rattle.castor_stage.specs.Stages.{stage}
+use Rattle.castor_alg.specs.HeldData.{held_data}
+use Rattle.castor_alg.specs.Stages.{stage}
 
 -- what is held, read under the code, means what the query means over each tables that this is held for, under all parameters
 abbrev pub MeansQuery : Rel → Held → Code → Type 0
@@ -33,4 +34,4 @@ HasTypes q types code = stage q ≡ Ok tt → (columns : List Ty) → column_typ
 
 -- the code of a query of at most 4,096 nodes and a depth of at most 64 is well formed
 abbrev pub IsFormed : Rel → Context → Code → Type 0
-IsFormed q types code = stage q ≡ Ok tt → (columns : List Ty) → column_types q types ≡ Some columns → nodes q ≤ 4096 → depth q ≤ 64 → is_well_formed code ≡ true
+IsFormed q types code = stage q ≡ Ok tt → (columns : List Ty) → column_types q types ≡ Some columns → nodes q ≤ most_query_nodes → depth q ≤ most_depth → is_well_formed code ≡ true

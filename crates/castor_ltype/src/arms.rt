@@ -98,8 +98,8 @@ pub fn dedup_of(alloc: Global, kid: Result<Laid, Memory>) -> Result<Laid, Memory
     dedup(alloc, kid?)
 }
 
-/// A dependent join over both its parts.
-pub fn join_of(
+/// `depjoin`: a dependent join over both its parts.
+pub fn depjoin_of(
     alloc: Global,
     scope: u32,
     first: Result<Laid, Memory>,
@@ -112,7 +112,7 @@ pub fn join_of(
     pair(alloc, scope, first, second)
 }
 
-/// Lists over all their children.
+/// `list`: lists over all their children.
 pub fn list_of(alloc: Global, held: &[&Held], kid: Result<Laid, Memory>) -> Result<Laid, Memory>
     requires { IfOk kid (λ k. k.sizes.items ≡ map (size.held_size k.code) (flat_map place.children (map (λ h. h.now) held.now))) }
     ensures { IfOk result (λ laid. IsOkAnd kid (λ k. IsLaid (generation.list_code (λ hs. k.code) (map (λ h. h.now) held.now)) (map (λ h. h.now) held.now) laid)) }
@@ -120,7 +120,7 @@ pub fn list_of(alloc: Global, held: &[&Held], kid: Result<Laid, Memory>) -> Resu
     list(alloc, held, kid?)
 }
 
-/// Hash indexes over the columns of all their keys and all their children.
+/// `hash`: hash indexes over the columns of all their keys and all their children.
 pub fn hash_of(
     alloc: Global,
     held: &[&Held],
@@ -137,7 +137,7 @@ pub fn hash_of(
     hash(alloc, held, key, kid, by)
 }
 
-/// Ordered indexes over all their keys and all their children.
+/// `ordered`: ordered indexes over all their keys and all their children.
 pub fn ord_of(
     alloc: Global,
     held: &[&Held],

@@ -9,8 +9,8 @@ ghost use Rattle.castor_ltype.specs.Places as place;
 ghost use Rattle.castor_ltype.specs.Sizes.{IsLaid, added, key_size, parts_size};
 
 use crate::arms::{
-    concat_of, cross_of, dedup_of, filter_of, group_of, hash_of, join_of, list_of, no_code, ord_of,
-    order_of, scalar_of, select_of,
+    concat_of, cross_of, dedup_of, depjoin_of, filter_of, group_of, hash_of, list_of, no_code,
+    ord_of, order_of, scalar_of, select_of,
 };
 use crate::keys::{key_columns, with_part};
 use crate::laid::{Laid, LaidParts};
@@ -53,7 +53,7 @@ pub fn lay<'a>(
             let columns = columns(alloc, r.get(), env)?;
             let first = lay_part(alloc, 0, r.get(), held, nothing, env);
             let second = lay_second(alloc, *k, columns.as_slice(), s.get(), held, nothing, &*env);
-            join_of(alloc, *k, first, second)
+            depjoin_of(alloc, *k, first, second)
         }
         Rel::Group(ks, aggs, r) => {
             let kid = lay_inner(alloc, r.get(), held, nothing, env);

@@ -3,16 +3,16 @@
 
 mod arms;
 mod formed;
-pub mod generation;
+mod generation;
 mod indexes;
 mod keys;
-pub mod laid;
+mod laid;
 mod laying;
 mod lists;
 mod nodes;
 mod parts;
 mod places;
-pub mod ranges;
+mod ranges;
 mod scalars;
 mod sizes;
 

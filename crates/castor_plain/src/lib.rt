@@ -2,13 +2,13 @@
 //! once more, by nested loops, and share no code with the evaluator and the reader but the order of values.
 #![tactic(auto)]
 
-pub mod aggregates;
-pub mod given;
-pub mod layout;
-pub mod meaning;
-pub mod operators;
-pub mod random;
-pub mod values;
+mod aggregates;
+mod given;
+mod layout;
+mod meaning;
+mod operators;
+mod random;
+mod values;
 
 pub use given::{Binding, Given, Line};
 pub use layout::plain_layout;

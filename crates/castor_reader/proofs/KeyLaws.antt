@@ -15,11 +15,11 @@ use Rattle.castor_alg.specs.declared.held.Entry.{Entry}
 use Rattle.castor_alg.specs.Sorting.{row_lt}
 use Rattle.castor_code.specs.Directories.{ascending, key_lt, rises}
 use Rattle.castor_code.specs.LayoutMeaning.{entries_within}
-use Rattle.castor_eval.proofs.DistinctLaws.{row_test, test_sym}
-use Rattle.castor_reader.specs.declared.limits.Limit.{Limit}
-use Rattle.castor_reader.specs.declared.limits.Limit.TheVariants.{Any, Incl, Excl}
+use Rattle.castor_laws.proofs.DistinctLaws.{same_row-IsEqualityTest, test_sym}
+use Rattle.castor_eval.specs.declared.limits.Limit.{Limit}
+use Rattle.castor_eval.specs.declared.limits.Limit.TheVariants.{Any, Incl, Excl}
 use Rattle.castor_reader.specs.Entries.{held_first, held_under, single_keys}
-use Rattle.castor_reader.specs.Limits.{above, below}
+use Rattle.castor_eval.specs.Ranges.{above, below}
 use Rattle.castor_reader.proofs.HalvingLaws.{Before, From, filter-both, front_passes, parted, rest_passes}
 
 is_less : (o : Ordering) → is_lt o ≡ true → o ≡ Less
@@ -46,7 +46,7 @@ pub before_parted : (key : Row) (es : List Entry) → ascending es ≡ true → 
 before_parted key es h = parted key_lt (λ e. true) (stands_before key) (λ x y g k less t. lt_trans x.key y.key key less t) es (all_good es) h
 
 turned : (key : Row) (e : Entry) → is_eq (row_cmp e.key key) ≡ same_row key e.key
-turned key e = test_sym same_row row_test e.key key
+turned key e = test_sym same_row same_row-IsEqualityTest e.key key
 
 skip : (o : Ordering) → is_lt o ≡ true → is_eq o ≡ false
 skip Less h = refl

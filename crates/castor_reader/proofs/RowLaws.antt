@@ -1,7 +1,6 @@
 -- Rows of cells in the place of the rows that they stand for.
 use Rattle.std.proofs.Common.{◌≡◌, ◌∙◌, ℕ, ◌<◌, ◌+◌, List, [], ◌∷◌, ◌++◌, length, map, take, get_or, refl, sym, ap, cond, Bool, true, false, arith}
 use Rattle.std.specs.List.{flat_map}
-use Rattle.std.specs.Cmp.{IsStrictWeakOrder}
 use Rattle.std.proofs.lemmas.List.{get_or-map, length-map, map-append, take_more}
 use Rattle.castor_val.specs.declared.fault.Faults.{Faults}
 use Rattle.castor_val.specs.Values.{union}
@@ -26,10 +25,6 @@ pub marked-view : {A B : Type 0} (view : A → B) (marks : List Bool) (xs : List
 marked-view view [] xs = refl
 marked-view view (b ∷ marks) [] = refl
 marked-view view (b ∷ marks) (x ∷ xs) = marked_at view b x (marked marks xs) (marked marks (map view xs)) (marked-view view marks xs)
-
--- an order of what elements stand for is one of the elements
-pub order-view : {A B : Type 0} (view : A → B) (lt : B → B → Bool) → IsStrictWeakOrder lt → IsStrictWeakOrder (λ a b. lt (view a) (view b))
-order-view view lt o = record { one_way = λ a b. o.one_way (view a) (view b); chain = λ a b c. o.chain (view a) (view b) (view c) }
 
 -- one more element of a list each of which is mapped
 pub mapped-more : {A B : Type 0} (f : A → B) (xs : List A) (i : ℕ) (x : A) (done done' : List B) (y : B) → i < length xs → x ≡ get_or xs i x → done ≡ map f (take i xs) → y ≡ f x → done' ≡ done ++ y ∷ [] → done' ≡ map f (take (i + 1) xs)

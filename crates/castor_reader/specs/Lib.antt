@@ -2,7 +2,6 @@ pub mod Answers
 pub mod Entries
 pub mod Fitting
 pub mod Grouping
-pub mod Limits
+pub mod HeldValues
 pub mod Replies
 pub mod Shapes
-pub mod StoredRows

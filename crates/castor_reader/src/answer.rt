@@ -4,7 +4,7 @@ ghost use Rattle.std.specs.Prelude.{◌≡◌, ◌++◌, ◌∷◌, [], OnOk, If
 ghost use Rattle.castor_val.specs.Values.{union, value_of};
 ghost use Rattle.castor_code.specs.LayoutMeaning.{nothing, only_faults};
 ghost use Rattle.castor_reader.specs.Answers.{out_of, values_in};
-ghost use Rattle.castor_reader.specs.StoredRows.{one_row};
+ghost use Rattle.castor_reader.specs.HeldValues.{one_row};
 
 use castor_val::{Cell, Faults, Memory};
 use std::alloc::Global;

@@ -13,7 +13,7 @@ use castor_val::{Cell, Memory};
 use indexmap::IndexSet;
 use std::alloc::Global;
 
-/// The distinct rows, the first of equal rows, moved. Linear in the rows and their cells, on average.
+/// `dedup`: the distinct rows, the first of equal rows, moved. Linear in the rows and their cells, on average.
 pub fn dedup<'a>(alloc: Global, from: Answer<'a>) -> Result<Answer<'a>, Memory>
     ensures { IfOk result (λ answer. out_of answer ≡ deduped (out_of from.entry)) }
 {

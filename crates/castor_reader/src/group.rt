@@ -24,7 +24,7 @@ pub struct Groups<'m, 'a> {
     pub members: Vec<Vec<&'m [Cell<'a>]>>,
 }
 
-/// For each group its key and its aggregates, where none of them faults. Linear in the rows, on
+/// `groupby`: for each group its key and its aggregates, where none of them faults. Linear in the rows, on
 /// average, and in the aggregates over each.
 pub fn group<'a>(
     alloc: Global,

@@ -7,12 +7,11 @@ ghost use Rattle.castor_val.specs.Values.{column, row_cmp, value_of};
 ghost use Rattle.castor_code.specs.Directories.{ascending};
 ghost use Rattle.castor_code.specs.LayoutMeaning.{entries_within};
 ghost use Rattle.castor_reader.specs.Entries.{held_first, held_under, single_keys};
-ghost use Rattle.castor_reader.specs.Limits.{above, below};
+ghost use Rattle.castor_eval.specs.Ranges.{above, below};
 
-use crate::limits::{Limit, is_above, is_below};
 use castor_alg::{Entry, Held};
-use castor_val::{Cell, Value, compare};
-use std::cmp::Ordering;
+use castor_eval::{Limit, is_above, is_below};
+use castor_val::{Cell, compare_with_cells};
 
 /// What is held under the key that equals this one. Compares with as many keys as the number of entries
 /// can be halved.
@@ -38,38 +37,17 @@ fn first_under<'h>(entries: &'h [Entry], key: &[Cell]) -> Option<&'h Held>
 fn is_before(entry: &Entry, key: &[Cell]) -> bool
     ensures { result ≡ is_lt (row_cmp entry.now.key (map value_of key.now)) }
 {
-    compare_key(entry.key.as_slice(), key).is_lt()
+    compare_with_cells(entry.key.as_slice(), key).is_lt()
 }
 
 // The child of an entry, where its key is this one.
 fn kid_at<'h>(entry: &'h Entry, key: &[Cell]) -> Option<&'h Held>
     ensures { option_copied result ≡ (if is_eq (row_cmp entry.now.key (map value_of key.now)) then Some entry.now.kid else None) }
 {
-    if compare_key(entry.key.as_slice(), key).is_eq() {
+    if compare_with_cells(entry.key.as_slice(), key).is_eq() {
         Some(&entry.kid)
     } else {
         None
-    }
-}
-
-// How the values of a key and cells are ordered: by the first value in which they differ, a row before its
-// extensions.
-fn compare_key(values: &[Value], key: &[Cell]) -> Ordering
-    ensures { result ≡ row_cmp values.now (map value_of key.now) }
-{
-    match values {
-        [] => match key {
-            [] => Ordering::Equal,
-            [_, ..] => Ordering::Less,
-        },
-        [value, values @ ..] => match key {
-            [] => Ordering::Greater,
-            [cell, key @ ..] => match compare(value.cell(), *cell) {
-                Ordering::Less => Ordering::Less,
-                Ordering::Equal => compare_key(values, key),
-                Ordering::Greater => Ordering::Greater,
-            },
-        },
     }
 }
 

@@ -15,7 +15,6 @@ mod group;
 mod index;
 mod keep;
 mod layout;
-mod limits;
 mod order;
 mod product;
 mod project;

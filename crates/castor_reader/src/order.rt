@@ -12,7 +12,7 @@ use castor_alg::Key;
 use castor_val::{Cell, Memory, compare};
 use std::cmp::Ordering;
 
-/// The rows sorted by the keys, where equal rows stay in their order. Of the order n log n in the rows, which
+/// `orderby`: the rows sorted by the keys, where equal rows stay in their order. Of the order n log n in the rows, which
 /// are moved.
 pub fn order<'a>(keys: &[Key], from: Answer<'a>) -> Result<Answer<'a>, Memory>
     ensures { IfOk result (λ answer. out_of answer ≡ sorted_by keys.now (out_of from.entry)) }

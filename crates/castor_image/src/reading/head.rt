@@ -8,16 +8,10 @@ ghost use Rattle.castor_image.specs.Takes.{Takes};
 use super::Input;
 use crate::error::OpenError;
 use crate::head::Head;
-use crate::names::{are_distinct, is_name};
-use castor_val::{Column, Text, Ty};
+use crate::names::{are_distinct, is_head_name};
+use castor_val::{Column, MAX_COLUMNS, MAX_PARAMS, Text, Ty};
 use sqlite_items::Items;
 use std::alloc::Global;
-
-/// The most parameters.
-const MAX_PARAMS: usize = 16;
-
-/// The most columns.
-const MAX_COLUMNS: usize = 64;
 
 impl<'a> Input<'a> {
     fn byte(&mut self) -> Result<u8, OpenError>
@@ -49,7 +43,7 @@ impl<'a> Input<'a> {
     {
         let length = self.byte()?;
         let name = self.utf8(length as u64)?;
-        if is_name(name.as_bytes()) {
+        if is_head_name(name.as_bytes()) {
             Ok(Text::from_str(alloc, name)?)
         } else {
             Err(OpenError::NotImage)

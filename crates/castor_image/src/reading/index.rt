@@ -2,7 +2,7 @@
 
 ghost use Rattle.std.specs.Prelude.{◌≡◌, ◌≤◌, ◌*◌, ◌^◌, drop, map};
 ghost use Rattle.castor_fixed.specs.Fields.{width};
-ghost use Rattle.castor_code.specs.Data.{format, hash_format, ord_format, readers, stored};
+ghost use Rattle.castor_code.specs.Data.{format, hash_format, ord_format, readers, data_read};
 ghost use Rattle.castor_code.specs.Readings.{hash_offsets, ord_offsets};
 ghost use Rattle.castor_code.specs.Steps.{many};
 ghost use Rattle.castor_image.specs.IndexReadings.{Confirms, entries_read, key_read, keyed_read, sorted_read, value_read};
@@ -86,7 +86,7 @@ impl<'a> Input<'a> {
         kid: &Code,
         key: &[Code],
     ) -> Result<Held, OpenError>
-        ensures { Takes (λ h. h) (entries_read count body hash_offsets (keyed_read (readers (map format key.now)) (stored kid.now)) self.old.rest.now) self.new.rest.now result }
+        ensures { Takes (λ h. h) (entries_read count body hash_offsets (keyed_read (readers (map format key.now)) (data_read kid.now)) self.old.rest.now) self.new.rest.now result }
     {
         let number = self.ranged(count)?;
         let _length = self.ranged(body)?;
@@ -108,7 +108,7 @@ impl<'a> Input<'a> {
         kid: &Code,
         key: &[Code],
     ) -> Result<Held, OpenError>
-        ensures { Takes (λ h. h) (entries_read count body ord_offsets (keyed_read (readers (map format key.now)) (stored kid.now)) self.old.rest.now) self.new.rest.now result }
+        ensures { Takes (λ h. h) (entries_read count body ord_offsets (keyed_read (readers (map format key.now)) (data_read kid.now)) self.old.rest.now) self.new.rest.now result }
     {
         let number = self.ranged(count)?;
         let _length = self.ranged(body)?;
@@ -147,7 +147,7 @@ impl<'a> Input<'a> {
         key: &[Code],
         number: u64,
     ) -> Result<Vec<Entry>, OpenError>
-        ensures { Takes (λ es. es.items) (sorted_read number (keyed_read (readers (map format key.now)) (stored kid.now)) self.old.rest.now) self.new.rest.now result }
+        ensures { Takes (λ es. es.items) (sorted_read number (keyed_read (readers (map format key.now)) (data_read kid.now)) self.old.rest.now) self.new.rest.now result }
     {
         let mut entries = self.many_entries(alloc, kid, key, number)?;
         sort_by_key(&mut entries)?;
@@ -163,7 +163,7 @@ impl<'a> Input<'a> {
         key: &[Code],
         number: u64,
     ) -> Result<Vec<Entry>, OpenError>
-        ensures { Takes (λ es. es.items) (many number (keyed_read (readers (map format key.now)) (stored kid.now)) self.old.rest.now) self.new.rest.now result }
+        ensures { Takes (λ es. es.items) (many number (keyed_read (readers (map format key.now)) (data_read kid.now)) self.old.rest.now) self.new.rest.now result }
     {
         let mut entries = Vec::new(alloc);
         for _ in 0..number {
@@ -179,7 +179,7 @@ impl<'a> Input<'a> {
     /// The values of a key, then a child. The entry is counted where it takes no bytes.
     #[cycle(read)]
     fn entry(&mut self, alloc: Global, kid: &Code, key: &[Code]) -> Result<Entry, OpenError>
-        ensures { Takes (λ e. e) (keyed_read (readers (map format key.now)) (stored kid.now) self.old.rest.now) self.new.rest.now result }
+        ensures { Takes (λ e. e) (keyed_read (readers (map format key.now)) (data_read kid.now) self.old.rest.now) self.new.rest.now result }
     {
         let before = self.rest.len();
         let key = self.key(alloc, key)?;
@@ -206,7 +206,7 @@ impl<'a> Input<'a> {
     /// A value of a key. Key codes of well-formed codes are those of a single value; for another code there
     /// is no value to hold, which is answered as want of memory.
     fn key_value(&mut self, alloc: Global, code: &Code) -> Result<Value, OpenError>
-        ensures { Takes (λ v. v) (value_read (stored code.now) self.old.rest.now) self.new.rest.now result }
+        ensures { Takes (λ v. v) (value_read (data_read code.now) self.old.rest.now) self.new.rest.now result }
     {
         match code {
             Code::Int { lo, hi } => Ok(into_value(self.int(*lo, *hi)?)),

@@ -10,11 +10,8 @@ ghost use Rattle.castor_alg.specs.declared.typing.TypeError.TheVariants as error
 use castor_alg::expr_typing::{are_columns, is_of};
 use castor_alg::type_env::type_at;
 use castor_alg::{Agg, Key, TypeError};
-use castor_val::Ty;
+use castor_val::{MAX_SORTING_KEYS, Ty};
 use std::alloc::Global;
-
-/// The most keys of an `Order`.
-const MAX_SORTING_KEYS: usize = 65_535;
 
 /// The column types of all operands, one after the other.
 pub fn cross_types(alloc: Global, operands: &[Vec<Ty>]) -> Result<Vec<Ty>, TypeError>

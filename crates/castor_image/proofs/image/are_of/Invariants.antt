@@ -1,6 +1,6 @@
 use Rattle.std.proofs.Common.{◌≡◌, drop}
+use Rattle.castor_val.specs.Columns.{types_of}
 use Rattle.castor_alg.specs.Typing.{same_types}
-use Rattle.castor_image.specs.Images.{types_of}
 use Rattle.castor_image.proofs.image.are_of.Given as goal
 
 abbrev pub invariant-loop-at : goal.invariant-loop-at

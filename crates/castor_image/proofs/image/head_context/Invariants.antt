@@ -1,5 +1,5 @@
 use Rattle.std.proofs.Common.{◌≡◌, take}
-use Rattle.castor_image.specs.Images.{types_of}
+use Rattle.castor_val.specs.Columns.{types_of}
 use Rattle.castor_image.proofs.image.head_context.Given as goal
 
 abbrev pub invariant-loop-param : goal.invariant-loop-param

@@ -9,7 +9,7 @@ open_code-requires c = record { valid = valid_frame _ c.args.bytes.now c.in-Ok.e
 
 pub returns-in-Ok-clause-value : goal.returns-in-Ok-clause-value
 returns-in-Ok-clause-value c =
-    let frame = frame_of c.in-Ok.frame.head c.in-Ok.frame.code.now c.in-Ok.frame.stored.now in
+    let frame = frame_of c.in-Ok.frame.head c.in-Ok.frame.code.now c.in-Ok.frame.data_part.now in
     frame_opened (λ (i : Image). i.head) (λ (i : Image). i.code) (λ (i : Image). i.held) frame c.args.bytes.now c.open_code.result c.in-Ok.ensures c.open_code.ensures
 
 pub returns-in-Ok-clause-law : goal.returns-in-Ok-clause-law

@@ -1,6 +1,6 @@
 use Rattle.std.proofs.Common.{◌≡◌, ◌∙◌, ◌-◌, drop, Bool, false, ◌&&◌, sym, ap, rules, arith}
 use Rattle.castor_code.specs.Directories.{key_lt}
-use Rattle.castor_image.proofs.SortLaws.{adjacent, adjacent-end, adjacent-step, keys_order, rises-adjacent}
+use Rattle.castor_image.proofs.AdjacentLaws.{adjacent, adjacent-end, adjacent-step, keys_order, rises-adjacent}
 use Rattle.castor_image.proofs.sorting.is_ascending.Goals as goal
 
 pub returns : goal.returns

@@ -1,6 +1,6 @@
 use Rattle.std.proofs.Common.{◌≡◌, ◌-◌, drop}
 use Rattle.castor_code.specs.Directories.{key_lt}
-use Rattle.castor_image.proofs.SortLaws.{adjacent}
+use Rattle.castor_image.proofs.AdjacentLaws.{adjacent}
 use Rattle.castor_image.proofs.sorting.is_ascending.Given as goal
 
 abbrev pub invariant-loop-at : goal.invariant-loop-at

@@ -2,7 +2,8 @@ use Rattle.std.proofs.Common.{rules, ap}
 use Rattle.std.specs.Ordering.{is_lt}
 use Rattle.std.proofs.lemmas.Fn.{always_returns_same}
 use Rattle.castor_code.specs.Directories.{key_lt}
-use Rattle.castor_image.proofs.SortLaws.{keys_order, sorted_is}
+use Rattle.castor_laws.proofs.SortingLaws.{sorted_is}
+use Rattle.castor_image.proofs.AdjacentLaws.{keys_order}
 use Rattle.castor_image.proofs.sorting.sort_by_key.Goals as goal
 
 pub returns : goal.returns

@@ -64,7 +64,7 @@ lay-returns-in-Dedup t c =
 
 pub lay-returns-in_ok-columns-in-DepJoin : goal.lay-returns-in_ok-columns-in-DepJoin
 lay-returns-in_ok-columns-in-DepJoin t c =
-    both_known _ _ _ _ c.join_of.ensures.code c.join_of.ensures.sizes
+    both_known _ _ _ _ c.depjoin_of.ensures.code c.depjoin_of.ensures.sizes
     (λ laid one two. depjoin_laid _ _ _ _ _ _ _ _ _ _ _ laid c.in-DepJoin.is c.get-in-DepJoin-2.ensures c.get-in-DepJoin-3.ensures
     (c.as_slice-in-DepJoin.ensures.value ∙ c.in_ok-columns-in-DepJoin.ensures ∙ ap (λ (r : Rel). source_types r (context_of c.args.env.now)) (c.get-in-DepJoin.ensures ∙ sym c.get-in-DepJoin-2.ensures))
     c.lay_part-first.ensures c.lay_second-second.ensures one two)

@@ -2,9 +2,8 @@ use Rattle.std.proofs.Common.{◌∙◌, ap, map, rules}
 use Rattle.std.specs.Ordering.{is_lt}
 use Rattle.std.proofs.lemmas.Fn.{always_returns_same}
 use Rattle.castor_alg.specs.Sorting.{by_keys}
-use Rattle.castor_eval.proofs.SortLaws.{keys_order, sorted-view, sorted_is}
+use Rattle.castor_laws.proofs.SortingLaws.{keys_order, order-view, sorted-view, sorted_is}
 use Rattle.castor_reader.specs.Answers.{values_in}
-use Rattle.castor_reader.proofs.RowLaws.{order-view}
 use Rattle.castor_reader.proofs.order.sort_rows.Goals as goal
 
 pub returns : goal.returns

@@ -2,9 +2,9 @@ use Rattle.std.proofs.Common.{◌∙◌, [], ◌∷◌, ◌++◌, map, refl, sym
 use Rattle.std.proofs.lemmas.List.{map-append}
 use Rattle.castor_val.specs.Values.{value_of}
 use Rattle.castor_reader.specs.Answers.{values_in}
-use Rattle.castor_reader.specs.StoredRows.{of_value}
+use Rattle.castor_reader.specs.HeldValues.{of_value}
 use Rattle.castor_reader.proofs.ValueLaws.{are_more, are_whole, one_is_none, values_more, values_whole}
-use Rattle.castor_reader.proofs.values.stored_values.Goals as goal
+use Rattle.castor_reader.proofs.values.held_values.Goals as goal
 
 pub loop-at-init : goal.loop-at-init
 loop-at-init c = record { are = refl; meant = λ env p. sym (ap (λ cells. map of_value (map value_of cells)) c.in_ok-row.ensures.items) }

@@ -1,8 +1,8 @@
 use Rattle.std.proofs.Common.{◌≡◌, take, true}
 use Rattle.castor_reader.specs.Answers.{values_in}
-use Rattle.castor_reader.specs.StoredRows.{are_values}
+use Rattle.castor_reader.specs.HeldValues.{are_values}
 use Rattle.castor_reader.proofs.ValueLaws.{AreSoFar}
-use Rattle.castor_reader.proofs.values.stored_values.Given as goal
+use Rattle.castor_reader.proofs.values.held_values.Given as goal
 
 abbrev pub invariant-loop-at : goal.invariant-loop-at
 invariant-loop-at l = record {

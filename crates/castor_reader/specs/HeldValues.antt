@@ -1,4 +1,4 @@
--- Parts that are one stored value each.
+-- Parts that are one value each.
 use Rattle.std.specs.Prelude.{◌≡◌, List, [], ◌∷◌, Bool, true, false, ◌&&◌, Some, map}
 use Rattle.std.specs.Option.{is_some}
 use Rattle.castor_val.specs.declared.row.Row.{Row}
@@ -9,24 +9,24 @@ use Rattle.castor_alg.specs.declared.out.Out.{Out}
 use Rattle.castor_alg.specs.Scopes.{Scopes}
 use Rattle.castor_code.specs.declared.code.Code.{Code}
 use Rattle.castor_code.specs.CodeReadings.{is_scalar}
-use Rattle.castor_code.specs.LayoutMeaning.{layout_meaning, over_parts, stored_row}
+use Rattle.castor_code.specs.LayoutMeaning.{layout_meaning, over_parts, value_row}
 use Rattle.castor_code.specs.Shapes.{leaf_of}
 
 -- this row, and no faults
 abbrev pub one_row : Row → Out
 one_row row = record { rows = row ∷ []; faults = no_faults }
 
--- what one stored value means
+-- what one value means
 abbrev pub of_value : Value → Out
-of_value v = stored_row (Some v)
+of_value v = value_row (Some v)
 
 -- the part is this value
-abbrev pub IsStoredValue : Code → Held → Value → Type 0
-IsStoredValue c h v = (env : Scopes) (p : Row) → layout_meaning c h env p ≡ of_value v
+abbrev pub IsHeldValue : Code → Held → Value → Type 0
+IsHeldValue c h v = (env : Scopes) (p : Row) → layout_meaning c h env p ≡ of_value v
 
 -- the parts are the values of this row, in order
-abbrev pub AreStoredValues : List Code → List Held → Row → Type 0
-AreStoredValues cs hs row = (env : Scopes) (p : Row) → over_parts (map layout_meaning cs) hs env p ≡ map of_value row
+abbrev pub AreHeldValues : List Code → List Held → Row → Type 0
+AreHeldValues cs hs row = (env : Scopes) (p : Row) → over_parts (map layout_meaning cs) hs env p ≡ map of_value row
 
 -- a leaf under the code of a scalar
 abbrev pub is_value : Code → Held → Bool

@@ -3,6 +3,7 @@ use Rattle.std.proofs.Common.{◌≡◌, ◌+◌, ◌∙◌, ℕ, List, length, 
 use Rattle.std.proofs.lemmas.List.{length-append}
 use Rattle.castor_base.specs.Files.{Files, SameFiles, SameOthers}
 use Rattle.castor_base.specs.Moves.{TookTooMany}
+use Rattle.castor_val.specs.Limits.{most_input_bytes}
 use Rattle.castor_image.specs.Images.{Content}
 use Rattle.castor_cli.specs.declared.command.Command.{Command}
 use Rattle.castor_cli.specs.declared.command.Command.TheVariants.{Answer, Build, Ask, Show, Code, Sample}
@@ -14,11 +15,11 @@ use Rattle.castor_cli.specs.declared.status.Status.TheVariants as status
 use Rattle.castor_cli.specs.Causes.{IsDue}
 use Rattle.castor_cli.specs.Commands.{Names}
 use Rattle.castor_cli.specs.Complete.{Completes, HasNoCause, InputIsWithin, IsOkOrMemory, IsWithinLimit}
-use Rattle.castor_cli.specs.Outcome.{Caused, Devices, Ended, Filed, IsImageFor, Rises, Taken, Written, file_named, input_limit}
+use Rattle.castor_cli.specs.Outcome.{Caused, Devices, Ended, Filed, IsImageFor, Rises, Taken, Written, file_named}
 use Rattle.castor_cli.specs.Preparation.{Broken}
 
 -- an input within the limit doesn't give one byte more than the limit
-not_too_many : (old new : Option (List ℕ)) → IsWithinLimit old → TookTooMany old new input_limit → ⊥
+not_too_many : (old new : Option (List ℕ)) → IsWithinLimit old → TookTooMany old new most_input_bytes → ⊥
 not_too_many None new within took = within
 not_too_many (Some xs) None within (bytes, n, took) = took
 not_too_many (Some xs) (Some ys) within (bytes, n, took) = let h : length xs ≡ length bytes + length ys = ap length took ∙ length-append bytes ys in omega (arith, h, n, within)

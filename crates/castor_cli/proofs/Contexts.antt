@@ -15,7 +15,8 @@ use Rattle.castor_code.specs.CodeTyping.{code_types, code_types_step}
 use Rattle.castor_code.proofs.CodeInduction.{With, code_induction, codes, fold-Bool, fold-Concat, fold-Cross, fold-Dedup, fold-Dep, fold-Filter, fold-Group, fold-Hash, fold-Int, fold-List, fold-Ord, fold-Order, fold-Select, fold-Text}
 use Rattle.castor_image.specs.Images.{fits_head}
 use Rattle.castor_schema.specs.declared.checked.Checked.{Checked}
-use Rattle.castor_schema.specs.WellTyped.{column_types_of, context_of}
+use Rattle.castor_val.specs.Columns.{types_of}
+use Rattle.castor_schema.specs.WellTyped.{query_context}
 use Rattle.castor_cli.specs.Building.{head_of}
 
 abbrev with_tables : List (List Ty) → Context → Context
@@ -118,6 +119,6 @@ same_itself (Truth ∷ types) = same_itself types
 same_itself (Text ∷ types) = same_itself types
 
 -- a code of the types of a checked query fits its head
-pub head_fits : (c : Checked) (code : Code) → code_types code (context_of c) ≡ Some (column_types_of c.columns) → fits_head code (head_of c) ≡ true
+pub head_fits : (c : Checked) (code : Code) → code_types code (query_context c) ≡ Some (types_of c.columns) → fits_head code (head_of c) ≡ true
 head_fits c code is =
-    rw (types_without_tables code (context_of c).tables (column_types_of c.params) (column_types_of c.columns) is) (same_itself (column_types_of c.columns))
+    rw (types_without_tables code (query_context c).tables (types_of c.params) (types_of c.columns) is) (same_itself (types_of c.columns))

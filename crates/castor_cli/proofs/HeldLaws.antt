@@ -6,8 +6,8 @@ use Rattle.castor_alg.specs.declared.held.Held.{Held}
 use Rattle.castor_alg.specs.declared.rel.Rel.{Rel}
 use Rattle.castor_image.specs.Images.{Content}
 use Rattle.castor_schema.specs.declared.checked.Checked.{Checked}
-use Rattle.castor_stage.specs.HeldData.{held_data}
-use Rattle.castor_stage.specs.Stages.{Staged, stage}
+use Rattle.castor_alg.specs.HeldData.{held_data}
+use Rattle.castor_alg.specs.Stages.{Staged, stage}
 use Rattle.castor_cli.specs.declared.status.Status.{Status}
 use Rattle.castor_cli.specs.declared.status.Status.TheVariants as status
 use Rattle.castor_cli.specs.After.{after}

@@ -4,8 +4,9 @@ use Rattle.std.specs.Prelude.{slice_index_or}
 use Rattle.std.proofs.lemmas.Bool.{and_parts, leb-true}
 use Rattle.std.proofs.lemmas.List.Sums.{AllPass-from_list_all}
 use Rattle.castor_schema.specs.declared.checked.Checked.{Checked}
-use Rattle.castor_schema.specs.declared.checked.Declared.{Declared}
-use Rattle.castor_schema.specs.WellTyped.{AreWithinLimits, is_table}
+use Rattle.castor_names.specs.declared.table.Declared.{Declared}
+use Rattle.castor_names.specs.NameForms.{is_table}
+use Rattle.castor_schema.specs.WellTyped.{AreWithinLimits}
 use Rattle.castor_cli.specs.Sound.{IsSmall}
 
 narrow : (t : Declared) → is_table t ≡ true → length t.columns ≤ 64

@@ -12,8 +12,8 @@ use Rattle.castor_parse.specs.Parsed.{HasSyntaxFault, IsParsed, IsTooLarge, by_b
 use Rattle.castor_parse.specs.Tokens.{tokens_of}
 use Rattle.castor_parse.proofs.FileLaws.{one_tree}
 use Rattle.castor_schema.specs.declared.checked.Checked.{Checked}
-use Rattle.castor_schema.specs.declared.error.SchemaError.{SchemaError}
-use Rattle.castor_schema.specs.declared.error.SchemaError.TheVariants as schema
+use Rattle.castor_names.specs.declared.error.SchemaError.{SchemaError}
+use Rattle.castor_names.specs.declared.error.SchemaError.TheVariants as schema
 use Rattle.castor_schema.specs.Check.{checked}
 use Rattle.castor_cli.specs.declared.command.Command.{Command}
 use Rattle.castor_cli.specs.declared.command.Command.TheVariants.{Answer, Build, Ask, Show, Code, Sample}

@@ -3,11 +3,11 @@ use Rattle.std.proofs.Common.{◌≡◌, ℕ, List, true, false, Option, Some, N
 use Rattle.castor_base.specs.Files.{Files}
 use Rattle.castor_base.specs.declared.failed.ShelfError.{ShelfError}
 use Rattle.castor_base.specs.declared.failed.ShelfError.TheVariants as shelf
+use Rattle.castor_val.specs.Limits.{most_file_bytes}
 use Rattle.castor_image.specs.Images.{Content, IsImageOf}
 use Rattle.castor_cli.specs.declared.status.Place.TheVariants as place
 use Rattle.castor_cli.specs.declared.status.Status.{Status}
 use Rattle.castor_cli.specs.declared.status.Status.TheVariants as status
-use Rattle.castor_cli.specs.Building.{image_limit}
 use Rattle.castor_cli.specs.Causes.{IsDue, NamesDeclared, Refused, RoseWhere, Stands, Unread, read_status}
 use Rattle.castor_cli.specs.Commands.{Names}
 use Rattle.castor_cli.specs.Opening.{IsImageIn, IsOpened}
@@ -22,16 +22,16 @@ use Rattle.castor_cli.proofs.Tables.{if_told}
 says : (file : Result (List ℕ) Status) (bytes : List ℕ) (r : Result Content Status) → file ≡ Ok bytes → IsImageIn bytes r → Says file IsImageIn r
 says file bytes r is h = subst (λ (f : Result (List ℕ) Status). Says f IsImageIn r) (sym is) h
 
-opens_to : (files : Files) (image bytes : List ℕ) → Stands image_limit bytes (files image) → OpensTo (IsOpened None files image) bytes
+opens_to : (files : Files) (image bytes : List ℕ) → Stands most_file_bytes bytes (files image) → OpensTo (IsOpened None files image) bytes
 opens_to files image bytes stands =
-    let is = readable_well place.Image image_limit (files image) bytes stands in
-    ((λ x h. says (readable false place.Image image_limit (files image)) bytes (Ok x) is h), (λ h. says (readable false place.Image image_limit (files image)) bytes (Err status.Image) is h))
+    let is = readable_well place.Image most_file_bytes (files image) bytes stands in
+    ((λ x h. says (readable false place.Image most_file_bytes (files image)) bytes (Ok x) is h), (λ h. says (readable false place.Image most_file_bytes (files image)) bytes (Err status.Image) is h))
 
 -- what the bytes of a file are is what opening it gives
-pub file_opens : (told : Option Files) (image bytes : List ℕ) → IfSome told (λ (files : Files). Stands image_limit bytes (files image)) → IfSome told (λ (files : Files). OpensTo (IsOpened None files image) bytes)
+pub file_opens : (told : Option Files) (image bytes : List ℕ) → IfSome told (λ (files : Files). Stands most_file_bytes bytes (files image)) → IfSome told (λ (files : Files). OpensTo (IsOpened None files image) bytes)
 file_opens told image bytes stands = if_told told _ _ (λ files s. opens_to files image bytes s) stands
 
-pub file_opened : (told : Option Files) (image bytes : List ℕ) → IfSome told (λ (files : Files). Stands image_limit bytes (files image)) → IfSome told (λ (files : Files). (x : Content) → IsImageOf x bytes → IsOpened None files image (Ok x))
+pub file_opened : (told : Option Files) (image bytes : List ℕ) → IfSome told (λ (files : Files). Stands most_file_bytes bytes (files image)) → IfSome told (λ (files : Files). (x : Content) → IsImageOf x bytes → IsOpened None files image (Ok x))
 file_opened told image bytes stands = if_told told _ _ (λ files s. (opens_to files image bytes s).0) stands
 
 -- ---- a file that isn't read
@@ -39,10 +39,10 @@ file_opened told image bytes stands = if_told told _ _ (λ files s. (opens_to fi
 unsaid : (file : Result (List ℕ) Status) (s : Status) → file ≡ Err s → Says file IsImageIn (Err s)
 unsaid file s is = subst (λ (f : Result (List ℕ) Status). Says f IsImageIn (Err s)) (sym is) refl
 
-unread_due : (files : Files) (image : List ℕ) (s : Status) → Unread place.Image image_limit (files image) s → IsDue (λ broken. IsOpened broken files image) s
+unread_due : (files : Files) (image : List ℕ) (s : Status) → Unread place.Image most_file_bytes (files image) s → IsDue (λ broken. IsOpened broken files image) s
 unread_due files image s (inl memory) = inl memory
-unread_due files image s (inr (true, blames, is)) = inr (Some place.Image, blames refl, unsaid (readable true place.Image image_limit (files image)) s is)
-unread_due files image s (inr (false, blames, is)) = inr (None, tt, unsaid (readable false place.Image image_limit (files image)) s is)
+unread_due files image s (inr (true, blames, is)) = inr (Some place.Image, blames refl, unsaid (readable true place.Image most_file_bytes (files image)) s is)
+unread_due files image s (inr (false, blames, is)) = inr (None, tt, unsaid (readable false place.Image most_file_bytes (files image)) s is)
 
 caused_unread : (ready : Broken → Result Content Status → Type 0) (e : ShelfError) → IsDue ready (read_status place.Image e) → Caused ready (read_status place.Image e)
 caused_unread ready shelf.Absent due = due
@@ -64,7 +64,7 @@ rises_unread told rose names table d shelf.Failed count = count
 rises_unread told rose names table d shelf.Memory count = tt
 
 ended_as : (told told_after : Option Files) (rose : List ℕ → Type 0) (d : Devices) (names : Names) (table : List ℕ) (e : ShelfError)
-    → IfSome told (λ (files : Files). Unread place.Image image_limit (files names.image) (read_status place.Image e)) → RoseWhere told_after (rose names.image) (read_status place.Image e)
+    → IfSome told (λ (files : Files). Unread place.Image most_file_bytes (files names.image) (read_status place.Image e)) → RoseWhere told_after (rose names.image) (read_status place.Image e)
     → Ended told told_after rose d (λ files broken. IsOpened broken files names.image) names (read_status place.Image e) table
 ended_as told told_after rose d names table e due count = record {
   caused = if_told told _ _ (λ files h. caused_unread (λ broken. IsOpened broken files names.image) e (unread_due files names.image (read_status place.Image e) h)) due;
@@ -74,12 +74,12 @@ ended_as told told_after rose d names table e due count = record {
 
 -- the file of the image wasn't read
 pub ended_unread : (told told_after : Option Files) (rose : List ℕ → Type 0) (d : Devices) (names : Names) (s : Status) (table : List ℕ)
-    → Refused told told_after (rose names.image) place.Image image_limit names.image s → Ended told told_after rose d (λ files broken. IsOpened broken files names.image) names s table
+    → Refused told told_after (rose names.image) place.Image most_file_bytes names.image s → Ended told told_after rose d (λ files broken. IsOpened broken files names.image) names s table
 ended_unread told told_after rose d names s table r =
     let (e, is) = r.error in
     subst (λ (t : Status). Ended told told_after rose d (λ files broken. IsOpened broken files names.image) names t table) (sym is)
     (ended_as told told_after rose d names table e
-    (subst (λ (t : Status). IfSome told (λ (files : Files). Unread place.Image image_limit (files names.image) t)) is r.due)
+    (subst (λ (t : Status). IfSome told (λ (files : Files). Unread place.Image most_file_bytes (files names.image) t)) is r.due)
     (subst (λ (t : Status). RoseWhere told_after (rose names.image) t) is r.count))
 
 -- a status that reading the file of an image gives

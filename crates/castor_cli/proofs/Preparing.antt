@@ -8,11 +8,11 @@ use Rattle.castor_alg.specs.declared.held.Held.{Held}
 use Rattle.castor_alg.specs.declared.rel.Rel.{Rel}
 use Rattle.castor_script.specs.declared.step_error.StepError.{StepError}
 use Rattle.castor_script.specs.Finish.{finish_of}
-use Rattle.castor_stage.specs.HeldData.{held_data}
-use Rattle.castor_stage.specs.Stages.{Staged, stage}
-use Rattle.castor_schema.specs.WellTyped.{context_of}
+use Rattle.castor_alg.specs.HeldData.{held_data}
+use Rattle.castor_alg.specs.Stages.{Staged, stage}
+use Rattle.castor_schema.specs.WellTyped.{query_context}
 use Rattle.castor_schema.specs.declared.checked.Checked.{Checked}
-use Rattle.castor_schema.specs.declared.checked.Declared.{Declared}
+use Rattle.castor_names.specs.declared.table.Declared.{Declared}
 use Rattle.castor_image.specs.Images.{Content}
 use Rattle.castor_cli.specs.declared.status.Place.TheVariants as place
 use Rattle.castor_cli.specs.declared.status.ReadFault.TheVariants as fault
@@ -152,7 +152,7 @@ last_refuses : (c : Checked) (ts : List Table) (final : Rel) (s : Status) → bu
 last_refuses c ts final s is = after_refuses (held_last c.query ts final) _ s (λ why e. held_refuses c.query ts final why e) (λ held why e. size_refuses _ _ why e) is
 
 built_refuses : (c : Checked) (ts : List Table) (s : Status) → built c ts ≡ Err s → IsOfBuild s
-built_refuses c ts s is = after_refuses (if_finished (finish_of (context_of c).tables c.query)) (built_last c ts) s (λ why e. finish_refuses _ why e) (λ final why e. last_refuses c ts final why e) is
+built_refuses c ts s is = after_refuses (if_finished (finish_of (query_context c).tables c.query)) (built_last c ts) s (λ why e. finish_refuses _ why e) (λ final why e. last_refuses c ts final why e) is
 
 build_refuses : (c : Checked) (ts : List Table) (s : Status) → (s ≡ status.Memory) ⊎ (built c ts ≡ Err s) → IsOfBuild s
 build_refuses c ts s (inl memory) = subst IsOfBuild (sym memory) tt

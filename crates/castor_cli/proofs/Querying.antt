@@ -1,13 +1,14 @@
 -- What reading the query's file and checking its text give.
 use Rattle.std.proofs.Common.{◌≡◌, ◌⊎◌, ℕ, List, Bool, true, false, Option, Result, Ok, Err, IfSome, refl, inl, inr}
 use Rattle.castor_base.specs.Files.{Files}
+use Rattle.castor_val.specs.Limits.{most_source_bytes}
 use Rattle.castor_parse.specs.declared.query.ParseError.{ParseError}
 use Rattle.castor_parse.specs.declared.query.ParseError.TheVariants as parse
 use Rattle.castor_parse.specs.declared.tree.File.{File}
 use Rattle.castor_parse.specs.Parsed.{IsParsed, IsRefused}
 use Rattle.castor_schema.specs.declared.checked.Checked.{Checked}
-use Rattle.castor_schema.specs.declared.error.SchemaError.{SchemaError}
-use Rattle.castor_schema.specs.declared.error.SchemaError.TheVariants as schema
+use Rattle.castor_names.specs.declared.error.SchemaError.{SchemaError}
+use Rattle.castor_names.specs.declared.error.SchemaError.TheVariants as schema
 use Rattle.castor_schema.specs.Check.{checked}
 use Rattle.castor_cli.specs.declared.status.Place.TheVariants as place
 use Rattle.castor_cli.specs.declared.status.QueryFault.TheVariants as fault
@@ -15,7 +16,7 @@ use Rattle.castor_cli.specs.declared.status.ReadFault.TheVariants as reading
 use Rattle.castor_cli.specs.declared.status.Status.{Status}
 use Rattle.castor_cli.specs.declared.status.Status.TheVariants as status
 use Rattle.castor_cli.specs.Causes.{IsOfPart, PartRefused, ReadsQuery, RoseWhere, Stands}
-use Rattle.castor_cli.specs.Preparation.{IsQueryIn, text_limit}
+use Rattle.castor_cli.specs.Preparation.{IsQueryIn}
 use Rattle.castor_cli.specs.Query.{IsQuery, ReadsText, ReadsTree, Unparsed, is_unchecked, is_unparsed}
 use Rattle.castor_cli.proofs.Reading.{readable_well}
 use Rattle.castor_cli.proofs.Tables.{if_told}
@@ -68,9 +69,9 @@ reads_tree text file (Err s) parsed h = refused_tree text file s parsed h
 -- ---- the file
 
 -- the text of the query was read, and is a query
-query_well : (told : Option Files) (query text : List ℕ) (c : Checked) → IfSome told (λ (files : Files). Stands text_limit text (files query)) → ReadsText text (Ok c)
+query_well : (told : Option Files) (query text : List ℕ) (c : Checked) → IfSome told (λ (files : Files). Stands most_source_bytes text (files query)) → ReadsText text (Ok c)
     → IfSome told (λ (files : Files). IsQueryIn false files query (Ok c))
-query_well told query text c stands is = if_told told _ _ (λ files s. rw (readable_well place.Query text_limit (files query) text s) is) stands
+query_well told query text c stands is = if_told told _ _ (λ files s. rw (readable_well place.Query most_source_bytes (files query) text s) is) stands
 
 text_of_part : (text : List ℕ) (s : Status) → ReadsText text (Err s) → IsOfPart place.Query s
 text_of_part text status.Memory h = tt
@@ -82,11 +83,11 @@ text_counts told_after rose text status.Memory h = tt
 text_counts told_after rose text (status.Query why) h = tt
 text_counts told_after rose text s h = absurd h
 
-said : (files : Files) (query text : List ℕ) (s : Status) → Stands text_limit text (files query) → IsQuery text (Err s)
+said : (files : Files) (query text : List ℕ) (s : Status) → Stands most_source_bytes text (files query) → IsQuery text (Err s)
     → (s ≡ status.Memory) ⊎ ((fails : Bool) × (fails ≡ true → s ≡ status.Read place.Query reading.Failed) × IsQueryIn fails files query (Err s))
-said files query text s stands is = inr (false, (λ (t : false ≡ true). absurd (cc t)), rw (readable_well place.Query text_limit (files query) text stands) is)
+said files query text s stands is = inr (false, (λ (t : false ≡ true). absurd (cc t)), rw (readable_well place.Query most_source_bytes (files query) text stands) is)
 
-text_due : (files : Files) (query text : List ℕ) (s : Status) → ReadsText text (Err s) → Stands text_limit text (files query)
+text_due : (files : Files) (query text : List ℕ) (s : Status) → ReadsText text (Err s) → Stands most_source_bytes text (files query)
     → (s ≡ status.Memory) ⊎ ((fails : Bool) × (fails ≡ true → s ≡ status.Read place.Query reading.Failed) × IsQueryIn fails files query (Err s))
 text_due files query text status.Memory is stands = inl refl
 text_due files query text (status.Query (fault.Parse why)) is stands = said files query text _ stands is
@@ -94,7 +95,7 @@ text_due files query text (status.Query (fault.Schema why)) is stands = said fil
 text_due files query text s is stands = absurd is
 
 -- the text of the query was read, and is refused
-query_refused : (told told_after : Option Files) (rose : Type 0) (query text : List ℕ) (s : Status) → IfSome told (λ (files : Files). Stands text_limit text (files query)) → ReadsText text (Err s)
+query_refused : (told told_after : Option Files) (rose : Type 0) (query text : List ℕ) (s : Status) → IfSome told (λ (files : Files). Stands most_source_bytes text (files query)) → ReadsText text (Err s)
     → PartRefused told told_after rose place.Query (λ fails files. IsQueryIn fails files query) s
 query_refused told told_after rose query text s stands is = record {
   of_part = text_of_part text s is;
@@ -103,7 +104,7 @@ query_refused told told_after rose query text s stands is = record {
 }
 
 -- the text of the query was read
-pub reads_query : (told told_after : Option Files) (rose : Type 0) (query text : List ℕ) (r : Result Checked Status) → IfSome told (λ (files : Files). Stands text_limit text (files query)) → ReadsText text r
+pub reads_query : (told told_after : Option Files) (rose : Type 0) (query text : List ℕ) (r : Result Checked Status) → IfSome told (λ (files : Files). Stands most_source_bytes text (files query)) → ReadsText text r
     → ReadsQuery told told_after rose query r
 reads_query told told_after rose query text (Ok c) stands is = query_well told query text c stands is
 reads_query told told_after rose query text (Err s) stands is = query_refused told told_after rose query text s stands is

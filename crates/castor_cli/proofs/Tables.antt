@@ -5,7 +5,7 @@ use Rattle.std.proofs.lemmas.List.{take_rest}
 use Rattle.castor_base.specs.Causes.{Rose}
 use Rattle.castor_base.specs.Files.{Files, SameFiles}
 use Rattle.castor_val.specs.declared.table.Table.{Table}
-use Rattle.castor_schema.specs.declared.checked.Declared.{Declared}
+use Rattle.castor_names.specs.declared.table.Declared.{Declared}
 use Rattle.castor_cli.specs.declared.status.Place.TheVariants as place
 use Rattle.castor_cli.specs.declared.status.ReadFault.TheVariants as fault
 use Rattle.castor_cli.specs.declared.status.Status.{Status}

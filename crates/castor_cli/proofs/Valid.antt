@@ -5,11 +5,12 @@ use Rattle.std.specs.Str.{bytes_eq}
 use Rattle.std.proofs.lemmas.Bool.{and_from, and_parts, eqb-true, le-leb}
 use Rattle.castor_val.specs.declared.column.Column.{Column}
 use Rattle.castor_code.specs.Pieces.{one_after_other}
-use Rattle.castor_image.specs.Heads.{are_head_columns, are_params, column_piece, is_between, is_head, is_letter, is_name, is_word_byte, names}
+use Rattle.castor_image.specs.Heads.{are_head_columns, are_params, column_piece, is_between, is_head, is_letter, is_head_name, is_word_byte, names}
 use Rattle.castor_image.specs.Heads as image
 use Rattle.castor_schema.specs.declared.checked.Checked.{Checked}
-use Rattle.castor_schema.specs.WellTyped.{AreNamed, AreWithinLimits, are_names, begins_name, continues_name, has_name_form}
-use Rattle.castor_schema.specs.WellTyped as schema
+use Rattle.castor_names.specs.NameForms.{are_names, begins_name, continues_name, has_name_form}
+use Rattle.castor_schema.specs.WellTyped.{AreNamed, AreWithinLimits}
+use Rattle.castor_names.specs.NameForms as schema
 use Rattle.castor_cli.specs.Building.{head_of}
 
 -- ---- names
@@ -43,7 +44,7 @@ bytes_continue (b ∷ bs) are =
     let tests = and_parts (continues_name b) (list_all continues_name bs) are in
     and_from _ _ (byte_continues b tests.0) (bytes_continue bs tests.1)
 
-name_formed : (name : List ℕ) → has_name_form name ≡ true → is_name name ≡ true
+name_formed : (name : List ℕ) → has_name_form name ≡ true → is_head_name name ≡ true
 name_formed [] is = absurd (cc is)
 name_formed (b ∷ bs) is =
     let tests = and_parts (begins_name b) _ is in

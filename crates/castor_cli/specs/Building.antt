@@ -1,6 +1,7 @@
 -- The image of a checked query over its tables, or why none is built.
 use Rattle.std.specs.Prelude.{◌≡◌, ◌⊎◌, ℕ, ◌==◌, ◌&&◌, List, [], length, nat_lt, Bool, Result, Ok, Err, if◌then◌else◌, not}
 use Rattle.std.specs.List.{starts_with}
+use Rattle.castor_val.specs.Limits.{most_file_bytes}
 use Rattle.castor_val.specs.declared.fault.Faults.{Faults}
 use Rattle.castor_val.specs.declared.table.Table.{Table}
 use Rattle.castor_alg.specs.declared.held.Held.{Held}
@@ -12,13 +13,13 @@ use Rattle.castor_image.specs.declared.head.Head.{Head}
 use Rattle.castor_image.specs.Images.{Content, IsImageOf, image_of}
 use Rattle.castor_ltype.specs.Generation.{code_for}
 use Rattle.castor_schema.specs.declared.checked.Checked.{Checked}
-use Rattle.castor_schema.specs.WellTyped.{context_of}
+use Rattle.castor_schema.specs.WellTyped.{query_context}
 use Rattle.castor_script.specs.declared.step_error.StepError.{StepError}
 use Rattle.castor_script.specs.declared.step_error.StepError.TheVariants as step
 use Rattle.castor_script.specs.Finish.{finish_of}
 use Rattle.castor_script.specs.KnownKeys.{known_keys}
-use Rattle.castor_stage.specs.HeldData.{held_data}
-use Rattle.castor_stage.specs.Stages.{Staged, stage}
+use Rattle.castor_alg.specs.HeldData.{held_data}
+use Rattle.castor_alg.specs.Stages.{Staged, stage}
 use Rattle.castor_cli.specs.declared.status.BuildFault.TheVariants as build
 use Rattle.castor_cli.specs.declared.status.ScriptFault.TheVariants as script
 use Rattle.castor_cli.specs.declared.status.Status.{Status}
@@ -87,18 +88,14 @@ head_of c = record { params = c.params; columns = c.columns }
 
 -- what the image of a final query holds: the code with the least ranges for what is held
 abbrev pub content_of : Checked → Rel → Held → Content
-content_of c final held = record { head = head_of c; code = code_for final (context_of c) held; held = held }
-
--- the limit on an image, in bytes
-abbrev pub image_limit : ℕ
-image_limit = 268435456
+content_of c final held = record { head = head_of c; code = code_for final (query_context c) held; held = held }
 
 -- the number of bytes of the image
 abbrev pub image_size : Content → ℕ
 image_size x = length (image_of x.head x.code x.held)
 
 abbrev pub if_small : Content → Result Content Status
-if_small x = if nat_lt image_limit (image_size x) then Err (status.Build build.TooLarge) else Ok x
+if_small x = if nat_lt most_file_bytes (image_size x) then Err (status.Build build.TooLarge) else Ok x
 
 -- what the image of a final query holds, or the first refusal
 abbrev pub built_last : Checked → List Table → Rel → Result Content Status
@@ -107,7 +104,7 @@ built_last c tables final = after (held_last c.query tables final) (λ held. if_
 -- what the image of a checked query over its tables holds, or the first refusal: first that of the script, and then those
 -- of the final query
 abbrev pub built : Checked → List Table → Result Content Status
-built c tables = after (if_finished (finish_of (context_of c).tables c.query)) (built_last c tables)
+built c tables = after (if_finished (finish_of (query_context c).tables c.query)) (built_last c tables)
 
 -- the bytes are the image that is due, or there is the refusal that is due, or want of memory
 abbrev pub BuildsImage : Result Content Status → Result (List ℕ) Status → Type 0

@@ -7,7 +7,7 @@ use Rattle.castor_base.specs.declared.failed.ShelfError.{ShelfError}
 use Rattle.castor_base.specs.declared.failed.ShelfError.TheVariants as shelf
 use Rattle.castor_val.specs.declared.table.Table.{Table}
 use Rattle.castor_schema.specs.declared.checked.Checked.{Checked}
-use Rattle.castor_schema.specs.declared.checked.Declared.{Declared}
+use Rattle.castor_names.specs.declared.table.Declared.{Declared}
 use Rattle.castor_image.specs.Images.{Content, IsImageOf}
 use Rattle.castor_cli.specs.declared.preparation.Stop.{Stop}
 use Rattle.castor_cli.specs.declared.status.Place.{Place}
@@ -16,7 +16,7 @@ use Rattle.castor_cli.specs.declared.status.ReadFault.TheVariants as fault
 use Rattle.castor_cli.specs.declared.status.Status.{Status}
 use Rattle.castor_cli.specs.declared.status.Status.TheVariants as status
 use Rattle.castor_alg.specs.Fits.{tables_fit}
-use Rattle.castor_schema.specs.WellTyped.{column_types_of}
+use Rattle.castor_val.specs.Columns.{types_of}
 use Rattle.castor_cli.specs.Preparation.{Broken, IsBuilt, IsQueryIn, query_fails, readable, script_in, table_in, tables_behind, tables_in, with_query}
 use Rattle.castor_cli.specs.Status.{table_file}
 
@@ -84,7 +84,7 @@ NamesDeclared files query s name = Unit {0}
 
 -- tables behind others have rows of the types that their declarations give them
 abbrev pub FitBehind : List Declared → List Table → List Table → Type 0
-FitBehind ds old new = (ts : List Table) × (new ≡ old ++ ts) × (tables_fit ts (map (λ (d : Declared). column_types_of d.columns) ds) ≡ true)
+FitBehind ds old new = (ts : List Table) × (new ≡ old ++ ts) × (tables_fit ts (map (λ (d : Declared). types_of d.columns) ds) ≡ true)
 
 -- the file is there, with these bytes, within the limit
 abbrev pub Stands : ℕ → List ℕ → Option (List ℕ) → Type 0

@@ -1,18 +1,19 @@
 -- That nothing but a named cause, or want of memory, keeps a run from its end.
 use Rattle.std.specs.Prelude.{ℕ, ◌≤◌, List, length, Option, Some, None, Result, IfSome}
 use Rattle.castor_base.specs.Files.{Files}
+use Rattle.castor_val.specs.Limits.{most_input_bytes}
 use Rattle.castor_image.specs.Images.{Content}
 use Rattle.castor_cli.specs.declared.command.Command.{Command}
 use Rattle.castor_cli.specs.declared.command.Command.TheVariants.{Build}
 use Rattle.castor_cli.specs.declared.status.Status.{Status}
 use Rattle.castor_cli.specs.declared.status.Status.TheVariants as status
-use Rattle.castor_cli.specs.Outcome.{Devices, IsReady, input_limit}
+use Rattle.castor_cli.specs.Outcome.{Devices, IsReady}
 use Rattle.castor_cli.specs.Preparation.{Broken}
 
 -- the input is told, and has no more bytes than are read
 abbrev pub IsWithinLimit : Option (List ℕ) → Type 0
 IsWithinLimit None = ⊥
-IsWithinLimit (Some bytes) = length bytes ≤ input_limit
+IsWithinLimit (Some bytes) = length bytes ≤ most_input_bytes
 
 -- a build reads no input
 abbrev pub InputIsWithin : Option Command → Option (List ℕ) → Type 0

@@ -9,7 +9,7 @@ use Rattle.castor_alg.specs.Scopes.{unbound}
 use Rattle.castor_code.specs.LayoutMeaning.{layout_meaning}
 use Rattle.castor_image.specs.Images.{Content}
 use Rattle.castor_schema.specs.declared.checked.Checked.{Checked}
-use Rattle.castor_schema.specs.WellTyped.{column_types_of}
+use Rattle.castor_val.specs.Columns.{types_of}
 use Rattle.castor_cli.specs.Building.{built}
 use Rattle.castor_cli.specs.Preparation.{IsQueryIn, tables_behind}
 use Rattle.castor_cli.specs.Sound.{IsSound}
@@ -24,7 +24,7 @@ pub record IsImageBuilt (files : Files) (query script : List ℕ) (c : Checked) 
 -- Under all parameters of the query's types, the image has the rows that the checked query means over its tables, in that
 -- order and each as often, and the same faults.
 abbrev pub MeansTheQuery : Checked → List Table → Content → Type 0
-MeansTheQuery c tables x = (values : Row) → row_fits values (column_types_of c.params) ≡ true → layout_meaning x.code x.held unbound values ≡ meaning c.query tables unbound values
+MeansTheQuery c tables x = (values : Row) → row_fits values (types_of c.params) ≡ true → layout_meaning x.code x.held unbound values ≡ meaning c.query tables unbound values
 
 -- each image that is built means its query
 abbrev pub ImagesMeanTheirQueries : Type 0

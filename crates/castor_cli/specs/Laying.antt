@@ -13,17 +13,17 @@ use Rattle.castor_ltype.specs.declared.generation.Layout.{Layout}
 use Rattle.castor_ltype.specs.Generation.{code_for}
 use Rattle.castor_ltype.specs.Layouts.{FitsHeld, HasTypes, IsFormed}
 use Rattle.castor_schema.specs.declared.checked.Checked.{Checked}
-use Rattle.castor_schema.specs.WellTyped.{context_of}
+use Rattle.castor_schema.specs.WellTyped.{query_context}
 use Rattle.castor_script.specs.Finish.{finish_of}
 use Rattle.castor_script.specs.Kept.{MeansTheSame}
-use Rattle.castor_stage.specs.HeldData.{held_data}
-use Rattle.castor_stage.specs.Stages.{stage}
+use Rattle.castor_alg.specs.HeldData.{held_data}
+use Rattle.castor_alg.specs.Stages.{stage}
 use Rattle.castor_cli.specs.Sound.{IsSound, TablesFit}
 
 -- what the script `finish;` makes of a checked query
 pub record IsFinal (c : Checked) (final : Rel) : Type 0 where
-  pub finished : finish_of (context_of c).tables c.query ≡ Ok final
-  pub same : MeansTheSame (context_of c) c.query final
+  pub finished : finish_of (query_context c).tables c.query ≡ Ok final
+  pub same : MeansTheSame (query_context c) c.query final
 
 -- what is held for a final query over tables, whose parts are each computed in time
 pub record IsHeldFor (c : Checked) (final : Rel) (held : Held) : Type 0 where

@@ -4,6 +4,7 @@ use Rattle.std.specs.Io.KnownBytes.{Appends, IsAtEnd, Keeps}
 use Rattle.castor_base.specs.Causes.{Rose}
 use Rattle.castor_base.specs.Files.{Files, HasFile, IsTorn, SameFiles, SameOthers}
 use Rattle.castor_base.specs.Moves.{AppendsPrefix, TookTooMany}
+use Rattle.castor_val.specs.Limits.{most_input_bytes}
 use Rattle.castor_image.specs.Images.{Content, IsImageOf, IsNoImage}
 use Rattle.castor_cli.specs.declared.command.Command.{Command}
 use Rattle.castor_cli.specs.declared.command.Command.TheVariants.{Answer, Build, Ask, Show, Code, Sample}
@@ -16,10 +17,6 @@ use Rattle.castor_cli.specs.Causes.{IsDue, NamesDeclared, RoseWhere, file_of_sta
 use Rattle.castor_cli.specs.Commands.{Names, command_of, word}
 use Rattle.castor_cli.specs.Opening.{IsOpened}
 use Rattle.castor_cli.specs.Preparation.{Broken, IsBuilt}
-
--- the limit on the input, in bytes
-abbrev pub input_limit : ℕ
-input_limit = 67108864
 
 -- an image is built or opened, or the status of the first refusal
 abbrev pub IsStartedBy : Option Command → (Result Content Status → Type 0) → (Result Content Status → Type 0) → Result Content Status → Type 0
@@ -70,7 +67,7 @@ TakenAll old new status.Ok = IsAtEnd new
 TakenAll old new (status.Write p) = IsAtEnd new
 TakenAll old new status.Memory = Unit {0}
 TakenAll old new (status.Read place.Input why) = Unit {0}
-TakenAll old new status.TooLong = TookTooMany old new input_limit
+TakenAll old new status.TooLong = TookTooMany old new most_input_bytes
 TakenAll old new s = Keeps old new
 
 -- nothing was taken, and so there was never too much

@@ -1,12 +1,13 @@
 -- The image of a query, a script and tables, check by check, or the status that the first refusal gives.
 use Rattle.std.specs.Prelude.{◌≡◌, ◌⊎◌, ℕ, zero, suc, ◌+◌, List, [], ◌∷◌, Bool, true, false, nat_lt, length, Option, Some, None, Result, Ok, Err, if◌then◌else◌}
 use Rattle.castor_base.specs.Files.{Files}
+use Rattle.castor_val.specs.Limits.{most_file_bytes, most_source_bytes}
 use Rattle.castor_val.specs.declared.table.Table.{Table}
 use Rattle.castor_load.specs.declared.error.LoadError.{LoadError}
 use Rattle.castor_load.specs.Rows.{table_of}
 use Rattle.castor_parse.specs.Tokens.{tokens_of}
 use Rattle.castor_schema.specs.declared.checked.Checked.{Checked}
-use Rattle.castor_schema.specs.declared.checked.Declared.{Declared}
+use Rattle.castor_names.specs.declared.table.Declared.{Declared}
 use Rattle.castor_cli.specs.declared.status.Place.{Place}
 use Rattle.castor_cli.specs.declared.status.Place.TheVariants as place
 use Rattle.castor_cli.specs.declared.status.ReadFault.TheVariants as fault
@@ -46,13 +47,6 @@ abbrev pub readable : Bool → Place → ℕ → Option (List ℕ) → Result (L
 readable fails p limit None = Err (status.Read p fault.Absent)
 readable fails p limit (Some bytes) = if nat_lt limit (length bytes) then Err (status.Read p fault.TooLong) else (if fails then Err (status.Read p fault.Failed) else Ok bytes)
 
--- the limits on files, in bytes
-abbrev pub text_limit : ℕ
-text_limit = 1048576
-
-abbrev pub table_limit : ℕ
-table_limit = 268435456
-
 -- the one script that is built yet: `finish;`
 abbrev pub script_of : List ℕ → Result (Unit {0}) Status
 script_of text = if are_finish text (tokens_of text) then Ok tt else Err status.NotYet
@@ -63,7 +57,7 @@ if_loaded i (Err why) = Err (status.Table i why)
 
 -- the table of a declaration, from the file of its name
 abbrev pub table_in : Bool → Files → ℕ → Declared → Result Table Status
-table_in fails files i d = after (readable fails (place.Table i) table_limit (files (table_file d.name))) (λ bytes. if_loaded i (table_of d.columns bytes))
+table_in fails files i d = after (readable fails (place.Table i) most_file_bytes (files (table_file d.name))) (λ bytes. if_loaded i (table_of d.columns bytes))
 
 -- the first of the tables is the one that fails
 abbrev pub first_fails : Option ℕ → Bool
@@ -84,7 +78,7 @@ tables_in failing files i (d ∷ ds) = after (table_in (first_fails failing) fil
 
 -- the script, by its name
 abbrev pub script_in : Bool → Files → List ℕ → Result (Unit {0}) Status
-script_in fails files script = after (readable fails place.Script text_limit (files script)) script_of
+script_in fails files script = after (readable fails place.Script most_source_bytes (files script)) script_of
 
 -- what a file that can be read says, or that it can't be read
 abbrev pub Says : {A : Type 0} → Result (List ℕ) Status → (List ℕ → Result A Status → Type 0) → Result A Status → Type 0
@@ -93,7 +87,7 @@ Says (Err why) says r = r ≡ Err why
 
 -- the checked query, by its name, or its refusal
 abbrev pub IsQueryIn : Bool → Files → List ℕ → Result Checked Status → Type 0
-IsQueryIn fails files query r = Says (readable fails place.Query text_limit (files query)) IsQuery r
+IsQueryIn fails files query r = Says (readable fails place.Query most_source_bytes (files query)) IsQuery r
 
 -- the tables of a checked query, where the script can be read and is the one that is built yet
 abbrev pub tables_behind : Broken → Files → List ℕ → Checked → Result (List Table) Status

@@ -5,8 +5,8 @@ use Rattle.castor_parse.specs.declared.query.ParseError.TheVariants as parse
 use Rattle.castor_parse.specs.declared.tree.File.{File}
 use Rattle.castor_parse.specs.Parsed.{IsParsed, IsRefused}
 use Rattle.castor_schema.specs.declared.checked.Checked.{Checked}
-use Rattle.castor_schema.specs.declared.error.SchemaError.{SchemaError}
-use Rattle.castor_schema.specs.declared.error.SchemaError.TheVariants as schema
+use Rattle.castor_names.specs.declared.error.SchemaError.{SchemaError}
+use Rattle.castor_names.specs.declared.error.SchemaError.TheVariants as schema
 use Rattle.castor_schema.specs.Check.{checked}
 use Rattle.castor_cli.specs.declared.status.QueryFault.TheVariants as fault
 use Rattle.castor_cli.specs.declared.status.Status.{Status}

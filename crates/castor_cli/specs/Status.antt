@@ -5,11 +5,11 @@ use Rattle.castor_load.specs.declared.error.LoadError.{LoadError}
 use Rattle.castor_load.specs.declared.error.LoadError.TheVariants as load
 use Rattle.castor_parse.specs.declared.query.ParseError.{ParseError}
 use Rattle.castor_parse.specs.declared.query.ParseError.TheVariants as parse
-use Rattle.castor_schema.specs.declared.error.SchemaError.{SchemaError}
-use Rattle.castor_schema.specs.declared.error.SchemaError.TheVariants as schema
+use Rattle.castor_names.specs.declared.error.SchemaError.{SchemaError}
+use Rattle.castor_names.specs.declared.error.SchemaError.TheVariants as schema
 use Rattle.castor_script.specs.declared.step_error.StepError.TheVariants as step
-use Rattle.castor_stage.specs.declared.stage_error.StageError.{StageError}
-use Rattle.castor_stage.specs.declared.stage_error.StageError.TheVariants as stage
+use Rattle.castor_alg.specs.declared.stage_error.StageError.{StageError}
+use Rattle.castor_alg.specs.declared.stage_error.StageError.TheVariants as stage
 use Rattle.castor_cli.specs.declared.status.BuildFault.{BuildFault}
 use Rattle.castor_cli.specs.declared.status.BuildFault.TheVariants as build
 use Rattle.castor_cli.specs.declared.status.Place.{Place}

@@ -10,16 +10,13 @@ ghost use Rattle.castor_cli.specs.Preparation.{IsBuilt};
 ghost use Rattle.castor_image.specs.Images.{IsImageOf};
 
 use crate::answers::{PrintError, print_answers};
-use crate::imaging::IMAGE_LIMIT;
 use crate::preparation::{Stop, prepare, read_file};
 use crate::status::{Place, ReadFault, Status};
 use castor_base::{Shelf, Sink, Source, Steps, TakeError, read_all};
 use castor_image::{Image, OpenError, open_image};
+use castor_val::{MAX_FILE_BYTES, MAX_INPUT_BYTES};
 use std::alloc::Global;
 use std::sync::ledger::Ledger;
-
-// The limit on the input, in bytes.
-const INPUT_LIMIT: u64 = 67_108_864;
 
 // Reads the input to its end, and prints the image's reply to each line.
 fn answer_input<I: Source, O: Sink, L: Ledger>(
@@ -34,7 +31,7 @@ fn answer_input<I: Source, O: Sink, L: Ledger>(
     ensures ends { EndsReady (Rose (I.faults input.old) (I.faults input.new)) (Rose (O.faults out.old) (O.faults out.new)) result }
     ensures steps { steps.new ≡ steps.old }
 {
-    match read_all(alloc, input, INPUT_LIMIT) {
+    match read_all(alloc, input, MAX_INPUT_BYTES) {
         Ok(text) => match print_answers(alloc, image, &text, out, steps) {
             Ok(()) => Status::Ok,
             Err(PrintError::Failed) => Status::Write(Place::Output),
@@ -113,7 +110,7 @@ fn ask_status<S: Shelf, I: Source, O: Sink, L: Ledger>(
     ensures shelf { SameFiles (S.files shelf.old) (S.files shelf.new) }
     ensures steps { steps.new ≡ steps.old }
 {
-    match read_file(alloc, shelf, Place::Image, name, IMAGE_LIMIT) {
+    match read_file(alloc, shelf, Place::Image, name, MAX_FILE_BYTES) {
         Ok(bytes) => answer_image(alloc, &bytes, input, out, steps),
         Err(status) => status,
     }

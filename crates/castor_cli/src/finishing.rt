@@ -2,11 +2,12 @@
 
 ghost use Rattle.std.specs.Prelude.{◌≡◌, IfOk, map};
 ghost use Rattle.std.specs.List.{starts_with};
-ghost use Rattle.castor_schema.specs.WellTyped.{IsWellTyped, column_types_of, context_of};
+ghost use Rattle.castor_val.specs.Columns.{types_of};
+ghost use Rattle.castor_schema.specs.WellTyped.{IsWellTyped, query_context};
 ghost use Rattle.castor_script.specs.Finish.{finish_of};
 ghost use Rattle.castor_script.specs.Kept.{MeansTheSame};
-ghost use Rattle.castor_stage.specs.HeldData.{held_data};
-ghost use Rattle.castor_stage.specs.Stages.{stage as stage_of};
+ghost use Rattle.castor_alg.specs.HeldData.{held_data};
+ghost use Rattle.castor_alg.specs.Stages.{stage as stage_of};
 ghost use Rattle.castor_cli.specs.Building.{held_last, if_finished, if_held, if_ordered, if_staged, is_unfinished, keeps_order, same_key};
 ghost use Rattle.castor_cli.specs.Gives.{GivesStatus};
 
@@ -21,7 +22,7 @@ use std::alloc::Global;
 
 // The types of columns.
 fn types_of(alloc: Global, columns: &[Column]) -> Result<Items<Ty>, Memory>
-    ensures { IfOk result (λ types. types ≡ column_types_of columns.now) }
+    ensures { IfOk result (λ types. types ≡ types_of columns.now) }
 {
     let mut types = Items::new(alloc);
     for column in columns {
@@ -32,7 +33,7 @@ fn types_of(alloc: Global, columns: &[Column]) -> Result<Items<Ty>, Memory>
 
 // The column types of tables.
 fn types_of_tables(alloc: Global, tables: &[Declared]) -> Result<Items<Items<Ty>>, Memory>
-    ensures { IfOk result (λ types. types ≡ map (λ t. column_types_of t.columns) tables.now) }
+    ensures { IfOk result (λ types. types ≡ map (λ t. types_of t.columns) tables.now) }
 {
     let mut all = Items::new(alloc);
     for table in tables {
@@ -42,8 +43,8 @@ fn types_of_tables(alloc: Global, tables: &[Declared]) -> Result<Items<Items<Ty>
 }
 
 /// The types of the tables and parameters, and no scope. Linear in their number.
-pub fn context_of(alloc: Global, checked: &Checked) -> Result<Context, Memory>
-    ensures { IfOk result (λ context. context ≡ context_of checked.now) }
+pub fn query_context(alloc: Global, checked: &Checked) -> Result<Context, Memory>
+    ensures { IfOk result (λ context. context ≡ query_context checked.now) }
 {
     let tables = types_of_tables(alloc, checked.tables.as_slice())?;
     let params = types_of(alloc, checked.params.as_slice())?;
@@ -67,10 +68,10 @@ fn unfinished(why: StepError) -> Status
 /// The query that the script `finish;` makes of a checked one. Costs what `copy` and `finish` do.
 pub fn finished(alloc: Global, checked: &Checked) -> Result<Rel, Status>
     requires typed { IsWellTyped checked.now }
-    ensures keeps { IfOk result (MeansTheSame (context_of checked.now) checked.now.query) }
-    ensures row { GivesStatus (λ q. q) (if_finished (finish_of (context_of checked.now).tables checked.now.query)) result }
+    ensures keeps { IfOk result (MeansTheSame (query_context checked.now) checked.now.query) }
+    ensures row { GivesStatus (λ q. q) (if_finished (finish_of (query_context checked.now).tables checked.now.query)) result }
 {
-    let Ok(context) = context_of(alloc, checked) else {
+    let Ok(context) = query_context(alloc, checked) else {
         return Err(Status::Memory);
     };
     let Ok(query) = copy(alloc, &checked.query) else {

@@ -1,26 +1,24 @@
 //! The image of a final query for which data is held.
 
 ghost use Rattle.std.specs.Prelude.{◌≡◌, ℕ, List, IfOk, length, nat_lt, true};
+ghost use Rattle.castor_val.specs.Limits.{most_file_bytes};
 ghost use Rattle.castor_code.specs.CodeForms.{code_bytes, is_well_formed};
 ghost use Rattle.castor_image.specs.Heads.{is_head};
 ghost use Rattle.castor_image.specs.Images.{framed};
-ghost use Rattle.castor_schema.specs.WellTyped.{context_of};
-ghost use Rattle.castor_cli.specs.Building.{BuildsImage, content_of, head_of, if_small, image_limit};
+ghost use Rattle.castor_schema.specs.WellTyped.{query_context};
+ghost use Rattle.castor_cli.specs.Building.{BuildsImage, content_of, head_of, if_small};
 ghost use Rattle.castor_cli.specs.Causes.{items_of};
 ghost use Rattle.castor_cli.specs.Laying.{CanBeWritten, IsHeldFor, IsLayoutFor};
 
-use crate::finishing::context_of;
+use crate::finishing::query_context;
 use crate::status::{BuildFault, Status};
 use castor_alg::{Held, Rel};
 use castor_image::{Head, build, overhead};
 use castor_ltype::{Layout, lay_out};
 use castor_schema::Checked;
-use castor_val::{Column, Memory};
+use castor_val::{Column, MAX_FILE_BYTES, Memory};
 use sqlite_items::Items;
 use std::alloc::Global;
-
-/// The limit on an image, in bytes.
-pub const IMAGE_LIMIT: u64 = 268_435_456;
 
 // The parameters and columns of a checked query.
 fn head_of(alloc: Global, checked: &Checked) -> Result<Head, Memory>
@@ -47,10 +45,10 @@ fn copy_columns(alloc: Global, columns: &[Column]) -> Result<Items<Column>, Memo
 fn is_too_large(alloc: Global, head: &Head, layout: &Layout) -> Result<bool, Memory>
     requires head { is_head head.now ≡ true }
     requires code { is_well_formed layout.now.code ≡ true }
-    ensures { IfOk result (λ is. (stored : List ℕ) → length stored ≡ layout.now.size → is ≡ nat_lt image_limit (length (framed head.now (code_bytes layout.now.code) stored))) }
+    ensures { IfOk result (λ is. (stored : List ℕ) → length stored ≡ layout.now.size → is ≡ nat_lt most_file_bytes (length (framed head.now (code_bytes layout.now.code) stored))) }
 {
     let around = overhead(alloc, head, &layout.code)?;
-    Ok(around > IMAGE_LIMIT || layout.size > IMAGE_LIMIT - around)
+    Ok(around > MAX_FILE_BYTES || layout.size > MAX_FILE_BYTES - around)
 }
 
 // The image of a head and a layout, where it is within the limit. It is measured before it is written.
@@ -70,9 +68,9 @@ fn write_image(alloc: Global, head: &Head, layout: &Layout, held: &Held) -> Resu
 
 // The layout of what is held for a final query.
 fn layout_of(alloc: Global, checked: &Checked, last: &Rel, held: &Held) -> Result<Layout, Memory>
-    ensures { IfOk result (IsLayoutFor last.now (context_of checked.now) held.now) }
+    ensures { IfOk result (IsLayoutFor last.now (query_context checked.now) held.now) }
 {
-    let context = context_of(alloc, checked)?;
+    let context = query_context(alloc, checked)?;
     lay_out(alloc, last, held, &context)
 }
 

@@ -4,8 +4,9 @@ ghost use Rattle.std.specs.Prelude.{◌≡◌, ◌≤◌, ◌+◌, List, ℕ, []
 ghost use Rattle.castor_base.specs.Causes.{Rose};
 ghost use Rattle.castor_base.specs.Files.{SameFiles};
 ghost use Rattle.castor_load.specs.Rows.{table_of};
+ghost use Rattle.castor_val.specs.Limits.{most_columns, most_tables};
 ghost use Rattle.castor_val.specs.Values.{table_fits};
-ghost use Rattle.castor_schema.specs.WellTyped.{column_types_of};
+ghost use Rattle.castor_val.specs.Columns.{types_of};
 ghost use Rattle.castor_cli.specs.Causes.{FitBehind, LoadsAll, LoadsOne, NamesTable, Prepares, PreparesRest, PreparesTables, ReadsFile, ReadsQuery, ReadsScript, items_of, nth_name, read_status};
 ghost use Rattle.castor_cli.specs.Sound.{AreNarrow, IsSmall, IsSound, TablesFit};
 ghost use Rattle.castor_cli.specs.Gives.{GivesStatus};
@@ -19,14 +20,9 @@ use crate::status::{Place, ReadFault, Status};
 use castor_base::{Shelf, ShelfError};
 use castor_load::{LoadError, load};
 use castor_schema::{Checked, Declared};
-use castor_val::{Memory, Table, Text};
+use castor_val::{MAX_FILE_BYTES, MAX_SOURCE_BYTES, Memory, Table, Text};
 use sqlite_items::Items;
 use std::alloc::Global;
-
-// The limits on files, in bytes.
-const TEXT_LIMIT: u64 = 1_048_576;
-
-const TABLE_LIMIT: u64 = 268_435_456;
 
 /// Why a command ended, and the name of the table that the status speaks of, if it is one's.
 #[derive(Drop)]
@@ -120,9 +116,9 @@ fn table_file(alloc: Global, table: &str) -> Result<String, Memory>
 
 // The rows of a table's file.
 fn load_rows(alloc: Global, number: u32, declared: &Declared, bytes: &[u8]) -> Result<Table, Status>
-    requires { length declared.now.columns ≤ 64 }
+    requires { length declared.now.columns ≤ most_columns }
     ensures exact { GivesStatus (λ t. t) (if_loaded number (table_of declared.now.columns bytes.now)) result }
-    ensures fits { IfOk result (λ t. table_fits t (column_types_of declared.now.columns) ≡ true) }
+    ensures fits { IfOk result (λ t. table_fits t (types_of declared.now.columns) ≡ true) }
 {
     match load(alloc, declared.columns.as_slice(), bytes) {
         Ok(rows) => Ok(rows),
@@ -138,14 +134,14 @@ fn load_table<S: Shelf>(
     number: u32,
     declared: &Declared,
 ) -> Result<Table, Status>
-    requires { length declared.now.columns ≤ 64 }
+    requires { length declared.now.columns ≤ most_columns }
     ensures same { SameFiles (S.files shelf.old) (S.files shelf.new) }
     ensures reads { (n : List ℕ) → S.read_faults shelf.old n ≤ S.read_faults shelf.new n }
     ensures writes { (n : List ℕ) → S.write_faults shelf.old n ≤ S.write_faults shelf.new n }
     ensures loads { LoadsOne (S.files shelf.old) (S.files shelf.new)
         (Rose (S.read_faults shelf.old (table_file declared.now.name)) (S.read_faults shelf.new (table_file declared.now.name)))
         number declared.now result }
-    ensures fits { IfOk result (λ t. table_fits t (column_types_of declared.now.columns) ≡ true) }
+    ensures fits { IfOk result (λ t. table_fits t (types_of declared.now.columns) ≡ true) }
 {
     let Ok(file) = table_file(alloc, declared.name.as_str()) else {
         return Err(Status::Memory);
@@ -155,7 +151,7 @@ fn load_table<S: Shelf>(
         shelf,
         Place::Table(number),
         file.as_str(),
-        TABLE_LIMIT,
+        MAX_FILE_BYTES,
     ) {
         Ok(bytes) => load_rows(alloc, number, declared, &bytes),
         Err(status) => Err(status),
@@ -170,7 +166,7 @@ fn load_tables<S: Shelf>(
     declared: &[Declared],
     tables: &mut Items<Table>,
 ) -> Result<(), Status>
-    requires room { number + length declared.now ≤ 16 }
+    requires room { number + length declared.now ≤ most_tables }
     requires narrow { AreNarrow declared.now }
     ensures same { SameFiles (S.files shelf.old) (S.files shelf.new) }
     ensures reads { (n : List ℕ) → S.read_faults shelf.old n ≤ S.read_faults shelf.new n }
@@ -199,7 +195,7 @@ fn read_steps<S: Shelf>(alloc: Global, shelf: &mut S, script: &str) -> Result<()
     ensures reading { ReadsScript (S.files shelf.old) (S.files shelf.new)
         (Rose (S.read_faults shelf.old script.now) (S.read_faults shelf.new script.now)) script.now result }
 {
-    match read_file(alloc, shelf, Place::Script, script, TEXT_LIMIT) {
+    match read_file(alloc, shelf, Place::Script, script, MAX_SOURCE_BYTES) {
         Ok(text) => match is_finish_script(alloc, &text) {
             Ok(true) => Ok(()),
             Ok(false) => Err(Status::NotYet),
@@ -218,7 +214,7 @@ fn read_checked<S: Shelf>(alloc: Global, shelf: &mut S, query: &str) -> Result<C
         (Rose (S.read_faults shelf.old query.now) (S.read_faults shelf.new query.now)) query.now result }
     ensures sound { IfOk result IsSound }
 {
-    match read_file(alloc, shelf, Place::Query, query, TEXT_LIMIT) {
+    match read_file(alloc, shelf, Place::Query, query, MAX_SOURCE_BYTES) {
         Ok(text) => read_query(alloc, &text),
         Err(status) => Err(status),
     }

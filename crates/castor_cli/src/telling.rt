@@ -1,9 +1,10 @@
 //! The line on the error output that tells of a status.
 
-ghost use Rattle.std.specs.Prelude.{◌≡◌, ◌++◌, ◌<◌, ◌-◌, ◌^◌, [], ◌∷◌, map, string_bytes};
+ghost use Rattle.std.specs.Prelude.{◌≡◌, ◌++◌, ◌<◌, [], ◌∷◌, map, string_bytes};
 ghost use Rattle.std.specs.Io.KnownBytes.{Appends};
 ghost use Rattle.castor_base.specs.Causes.{Rose};
 ghost use Rattle.castor_base.specs.Moves.{AppendsPrefix};
+ghost use Rattle.castor_val.specs.Limits.{most_count};
 ghost use Rattle.castor_cli.specs.Commands.{command_of, image_name, word};
 ghost use Rattle.castor_cli.specs.Puts.{Puts};
 ghost use Rattle.castor_cli.specs.Status.{error_text, fault_end, in_a_row, place_name, table_line};
@@ -219,7 +220,7 @@ fn put_status<'a, E: Sink>(
 /// status may speak of. After a piece that fails nothing more is written. Takes no memory.
 pub fn tell<'a, E: Sink>(err: &mut E, words: &'a [String], table: &'a str, status: Status)
     ensures prefix { AppendsPrefix (E.given err.old) (E.given err.new) (error_text (map string_bytes words.now) table.now status) }
-    ensures whole { (E.faults err.new ≡ E.faults err.old) → E.faults err.old < 2 ^ 64 - 1
+    ensures whole { (E.faults err.new ≡ E.faults err.old) → E.faults err.old < most_count
         → Appends (E.given err.old) (E.given err.new) (error_text (map string_bytes words.now) table.now status) }
 {
     let _ = put_status(err, words, table, status);

@@ -3,7 +3,7 @@
 
 castor=${CASTOR:-$(cd "$(dirname "${BASH_SOURCE[0]}")/.." && pwd)/crates/castor/out/castor}
 if [ ! -x "$castor" ]; then
-    echo "$(basename "$0"): no program at $castor; build it with rt ci, or name one in CASTOR" >&2
+    echo "$(basename "$0"): no program at $castor; build it with scripts/build.py, or name one in CASTOR" >&2
     exit 1
 fi
 castor=$(realpath "$castor")

@@ -1,7 +1,8 @@
 #!/usr/bin/env bash
-# Answers the questions of this folder with the proved program.
+# Answers the questions of this folder. Some replies are a fault, and some lines are no parameters.
 set -eu
 cd "$(dirname "$0")"
-castor=$(../../scripts/program.sh)
-"$castor" answer by_customer.query finish.script < customers.txt
-"$castor" answer largest.query finish.script < least.txt
+exec ../../scripts/try.sh \
+    by_customer.query finish.script customers.txt \
+    largest.query finish.script least.txt \
+    share.query finish.script shares.txt

@@ -3,13 +3,13 @@ use Rattle.std.proofs.Common.{◌≡◌, ◌∙◌, ℕ, List, map, Bool, true, 
 use Rattle.castor_base.specs.Files.{Files}
 use Rattle.castor_parse.specs.declared.query.ParseError.{ParseError}
 use Rattle.castor_parse.specs.declared.query.ParseError.TheVariants as parse
-use Rattle.castor_parse.specs.declared.token.Token.{Token}
+use Rattle.castor_tokens.specs.declared.token.Token.{Token}
 use Rattle.castor_parse.specs.declared.tree.File.{File}
 use Rattle.castor_parse.specs.Grammar.{IsFile}
 use Rattle.castor_parse.specs.Lexemes.{lexemes}
 use Rattle.castor_parse.specs.Limits.{are_within_limits}
 use Rattle.castor_parse.specs.Parsed.{HasSyntaxFault, IsParsed, IsTooLarge, by_bytes, by_cut, by_grammar, by_tokens, by_tree}
-use Rattle.castor_parse.specs.Tokens.{tokens_of}
+use Rattle.castor_tokens.specs.Tokens.{tokens_of}
 use Rattle.castor_parse.proofs.FileLaws.{one_tree}
 use Rattle.castor_schema.specs.declared.checked.Checked.{Checked}
 use Rattle.castor_names.specs.declared.error.SchemaError.{SchemaError}

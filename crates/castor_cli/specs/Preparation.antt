@@ -5,7 +5,7 @@ use Rattle.castor_val.specs.Limits.{most_file_bytes, most_source_bytes}
 use Rattle.castor_val.specs.declared.table.Table.{Table}
 use Rattle.castor_load.specs.declared.error.LoadError.{LoadError}
 use Rattle.castor_load.specs.Rows.{table_of}
-use Rattle.castor_parse.specs.Tokens.{tokens_of}
+use Rattle.castor_tokens.specs.Tokens.{tokens_of}
 use Rattle.castor_schema.specs.declared.checked.Checked.{Checked}
 use Rattle.castor_names.specs.declared.table.Declared.{Declared}
 use Rattle.castor_cli.specs.declared.status.Place.{Place}

@@ -1,8 +1,8 @@
 -- The one script that is built yet.
 use Rattle.std.specs.Prelude.{ℕ, ◌-◌, Bool, false, ◌&&◌, List, [], ◌∷◌, take, drop, codes, Option, Some, None}
 use Rattle.std.specs.Str.{bytes_eq}
-use Rattle.castor_parse.specs.declared.token.Span.{Span}
-use Rattle.castor_parse.specs.declared.token.Token.{Token}
+use Rattle.castor_tokens.specs.declared.token.Span.{Span}
+use Rattle.castor_tokens.specs.declared.token.Token.{Token}
 
 -- the bytes of a text at a span
 abbrev pub slice : List ℕ → Span → List ℕ

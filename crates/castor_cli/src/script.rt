@@ -1,10 +1,10 @@
 //! The script that a command is about.
 
 ghost use Rattle.std.specs.Prelude.{◌≡◌, IfOk};
-ghost use Rattle.castor_parse.specs.Tokens.{tokens_of};
+ghost use Rattle.castor_tokens.specs.Tokens.{tokens_of};
 ghost use Rattle.castor_cli.specs.Script.{are_finish, is_finish, is_spelled, slice};
 
-use castor_parse::{CutError, Span, Token, tokens};
+use castor_tokens::{CutError, Span, Token, tokens};
 use castor_val::Memory;
 use std::alloc::Global;
 

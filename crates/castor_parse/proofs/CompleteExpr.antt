@@ -6,9 +6,9 @@ use Rattle.castor_val.specs.declared.value.Ty.TheVariants as ty
 use Rattle.castor_val.specs.declared.value.Value.TheVariants as value
 use Rattle.castor_alg.specs.declared.expr.Op.{Op}
 use Rattle.castor_alg.specs.declared.expr.Op.TheVariants as op
-use Rattle.castor_parse.specs.declared.token.Kind.{Kind}
-use Rattle.castor_parse.specs.declared.token.Keyword.TheVariants as word
-use Rattle.castor_parse.specs.declared.token.Symbol.TheVariants as sign
+use Rattle.castor_tokens.specs.declared.token.Kind.{Kind}
+use Rattle.castor_tokens.specs.declared.token.Keyword.TheVariants as word
+use Rattle.castor_tokens.specs.declared.token.Symbol.TheVariants as sign
 use Rattle.castor_parse.specs.declared.tree.Word.{Word}
 use Rattle.castor_parse.specs.declared.tree.PCol.{PCol}
 use Rattle.castor_parse.specs.declared.tree.PCol.TheVariants as col

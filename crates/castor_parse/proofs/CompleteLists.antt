@@ -1,6 +1,6 @@
 -- What the grammar derives as a list is read so.
 use Rattle.std.proofs.Common.{◌≡◌, ℕ, zero, suc, ◌+◌, ◌-◌, ◌≤◌, ◌<◌, false, List, [], ◌∷◌, ◌++◌, length, Some, refl, sym, ap, ◌∙◌, subst, append_assoc, arith}
-use Rattle.castor_parse.specs.declared.token.Symbol.TheVariants as sign
+use Rattle.castor_tokens.specs.declared.token.Symbol.TheVariants as sign
 use Rattle.castor_parse.specs.Lexemes.{Lexemes}
 use Rattle.castor_parse.specs.Grammar as g
 use Rattle.castor_parse.specs.Grammar.{Separated, last, more, MaybeSeparated, no_items, some_items}

@@ -2,9 +2,9 @@
 use Rattle.std.proofs.Common.{◌≡◌, ℕ, zero, suc, ◌+◌, ◌<◌, Bool, false, List, ◌∷◌, Option, Some, refl, ap, ◌∙◌, zero-add, arith}
 use Rattle.std.specs.Prelude.{nat_le}
 use Rattle.std.proofs.lemmas.Bool.{leb-true}
-use Rattle.castor_parse.specs.declared.token.Keyword.{Keyword}
-use Rattle.castor_parse.specs.declared.token.Keyword.TheVariants as word
-use Rattle.castor_parse.specs.declared.token.Symbol.TheVariants as sign
+use Rattle.castor_tokens.specs.declared.token.Keyword.{Keyword}
+use Rattle.castor_tokens.specs.declared.token.Keyword.TheVariants as word
+use Rattle.castor_tokens.specs.declared.token.Symbol.TheVariants as sign
 use Rattle.castor_parse.specs.declared.tree.Word.{Word}
 use Rattle.castor_parse.specs.declared.tree.PCol.{PCol}
 use Rattle.castor_parse.specs.declared.tree.PExpr.{PExpr}

@@ -9,10 +9,10 @@ use Rattle.castor_val.specs.declared.value.Value.{Value}
 use Rattle.castor_val.specs.declared.value.Value.TheVariants as value
 use Rattle.castor_alg.specs.declared.expr.Op.{Op}
 use Rattle.castor_alg.specs.declared.expr.Op.TheVariants as op
-use Rattle.castor_parse.specs.declared.token.Kind.{Kind}
-use Rattle.castor_parse.specs.declared.token.Kind.TheVariants as kind
-use Rattle.castor_parse.specs.declared.token.Span.{Span}
-use Rattle.castor_parse.specs.declared.token.Token.{Token}
+use Rattle.castor_tokens.specs.declared.token.Kind.{Kind}
+use Rattle.castor_tokens.specs.declared.token.Kind.TheVariants as kind
+use Rattle.castor_tokens.specs.declared.token.Span.{Span}
+use Rattle.castor_tokens.specs.declared.token.Token.{Token}
 use Rattle.castor_parse.specs.declared.tree.Word.{Word}
 use Rattle.castor_parse.specs.declared.tree.Decl.{Decl}
 use Rattle.castor_parse.specs.declared.tree.PCol.{PCol}
@@ -25,8 +25,8 @@ use Rattle.castor_parse.specs.declared.tree.PExpr.TheOpen as E
 use Rattle.castor_parse.specs.declared.tree.PRel.{PRel, fold-roll-PRel}
 use Rattle.castor_parse.specs.declared.tree.PRel.TheVariants as r
 use Rattle.castor_parse.specs.declared.tree.PRel.TheOpen as R
-use Rattle.castor_parse.specs.Tokens.{Bytes}
-use Rattle.castor_parse.specs.Cut.{StandsAt, Stands}
+use Rattle.castor_tokens.specs.Tokens.{Bytes}
+use Rattle.castor_tokens.specs.Cut.{StandsAt, Stands}
 use Rattle.castor_parse.specs.Lexemes.{Lexeme, name, int, text, keyword, symbol, Lexemes, lexeme_of, lexemes}
 use Rattle.castor_parse.specs.Limits.{is_short}
 use Rattle.castor_parse.specs.Grammar as g

@@ -16,5 +16,4 @@ pub mod SoundExpr
 pub mod SoundFile
 pub mod SoundLists
 pub mod SoundRel
-pub mod TokenLaws
 pub mod Turns

@@ -1,6 +1,6 @@
 -- The loop that passes `not`.
 use Rattle.std.proofs.Common.{◌≡◌, ℕ, suc, ◌+◌, ◌≤◌, Bool, true, false, cond, [], ◌∷◌, length, drop, Some, refl, sym, ap, ◌∙◌, subst, arith}
-use Rattle.castor_parse.specs.declared.token.Keyword.TheVariants.{Not}
+use Rattle.castor_tokens.specs.declared.token.Keyword.TheVariants.{Not}
 use Rattle.castor_parse.specs.Lexemes.{Lexeme, Lexemes}
 use Rattle.castor_parse.specs.Parser.{State, Outcome, at, kind_of, is_keyword, eat_keyword, leading_nots, read_nots}
 use Rattle.castor_parse.proofs.Outcomes.{pair, same_pair}

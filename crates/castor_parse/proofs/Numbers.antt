@@ -2,7 +2,7 @@
 use Rattle.std.proofs.Common.{◌≡◌, ℕ, ◌+◌, ◌-◌, ◌*◌, ◌^◌, ◌<◌, ◌≤◌, [], ◌∷◌, length, drop, get_or, ap, arith}
 use Rattle.std.specs.Prelude.{fold}
 use Rattle.std.proofs.lemmas.List.{drop_more}
-use Rattle.castor_parse.specs.Tokens.{Bytes}
+use Rattle.castor_tokens.specs.Tokens.{Bytes}
 
 abbrev step : ℕ → ℕ → ℕ
 step n b = 10 * n + (b - 48)

@@ -3,8 +3,8 @@ use Rattle.std.proofs.Common.{◌≡◌, ℕ, ◌+◌, ◌-◌, ◌≤◌, Bool,
 use Rattle.std.specs.Prelude.{nat_le}
 use Rattle.castor_val.specs.declared.value.Ty.{Ty}
 use Rattle.castor_alg.specs.declared.expr.Op.{Op}
-use Rattle.castor_parse.specs.declared.token.Keyword.TheVariants as word
-use Rattle.castor_parse.specs.declared.token.Symbol.TheVariants as sign
+use Rattle.castor_tokens.specs.declared.token.Keyword.TheVariants as word
+use Rattle.castor_tokens.specs.declared.token.Symbol.TheVariants as sign
 use Rattle.castor_parse.specs.declared.tree.Word.{Word}
 use Rattle.castor_parse.specs.declared.tree.Decl.{Decl}
 use Rattle.castor_parse.specs.declared.tree.PCol.{PCol}

@@ -4,7 +4,7 @@ use Rattle.std.specs.Prelude.{◌==◌}
 use Rattle.std.proofs.Math.Utf8.{scalars, scalar, encodes, encode}
 use Rattle.std.proofs.lemmas.Str.{inside_one, length-encode, len_utf8_bounds}
 use Rattle.std.proofs.lemmas.Bool.{eqb-true}
-use Rattle.castor_parse.specs.Tokens.{Bytes, quote}
+use Rattle.castor_tokens.specs.Tokens.{Bytes, quote}
 use Rattle.castor_parse.specs.Lexemes.{undoubled, undoubled_from}
 
 -- the characters that are left

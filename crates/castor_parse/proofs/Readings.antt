@@ -5,8 +5,8 @@ use Rattle.std.proofs.lemmas.Bool.{lt-ltb, leb-true}
 use denote.Enum.Bare.{same_true}
 use Rattle.castor_parse.specs.contracts.token.Keyword as keywords
 use Rattle.castor_parse.specs.contracts.token.Symbol as symbols
-use Rattle.castor_parse.specs.declared.token.Keyword.{Keyword}
-use Rattle.castor_parse.specs.declared.token.Symbol.{Symbol}
+use Rattle.castor_tokens.specs.declared.token.Keyword.{Keyword}
+use Rattle.castor_tokens.specs.declared.token.Symbol.{Symbol}
 use Rattle.castor_parse.specs.Lexemes.{Lexeme, name, int, text, keyword, symbol, Lexemes}
 use Rattle.castor_parse.specs.Parser.{State, Parser, at, spend, shown, node, same_keyword, same_symbol, eat_symbol, eat_keyword, expect_symbol, expect_keyword, read_name, read_int, read_text}
 use Rattle.castor_parse.proofs.Outcomes.{Gives, gives_none, gives_some}

@@ -1,8 +1,8 @@
 -- What the rules of relations read stands in the grammar.
 use Rattle.std.proofs.Common.{◌≡◌, ℕ, zero, suc, ◌+◌, ◌<◌, Bool, true, false, List, [], ◌∷◌, Some, refl, sym, ap, ◌∙◌, subst, zero-add, arith}
-use Rattle.castor_parse.specs.declared.token.Keyword.{Keyword}
-use Rattle.castor_parse.specs.declared.token.Keyword.TheVariants as word
-use Rattle.castor_parse.specs.declared.token.Symbol.TheVariants as sign
+use Rattle.castor_tokens.specs.declared.token.Keyword.{Keyword}
+use Rattle.castor_tokens.specs.declared.token.Keyword.TheVariants as word
+use Rattle.castor_tokens.specs.declared.token.Symbol.TheVariants as sign
 use Rattle.castor_parse.specs.declared.tree.Word.{Word}
 use Rattle.castor_parse.specs.declared.tree.PCol.{PCol}
 use Rattle.castor_parse.specs.declared.tree.PExpr.{PExpr}

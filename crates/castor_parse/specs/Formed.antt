@@ -23,7 +23,7 @@ use Rattle.castor_parse.specs.declared.tree.PRel.{PRel, fold-PRel}
 use Rattle.castor_parse.specs.declared.tree.PRel.TheOpen.{PRel-F}
 use Rattle.castor_parse.specs.declared.tree.PRel.TheOpen as r
 use Rattle.castor_parse.specs.declared.tree.File.{File}
-use Rattle.castor_parse.specs.Tokens.{is_name}
+use Rattle.castor_tokens.specs.Tokens.{is_name}
 use Rattle.castor_parse.specs.Parsed.{IsSmall}
 
 -- a name of at most 64 bytes

@@ -1,13 +1,13 @@
 -- What a grammar sees of a token: the name, the number or the text that it stands for.
 use Rattle.std.specs.Prelude.{◌≡◌, ◌≤◌, ◌^◌, Option, Some, None, ℕ, ◌+◌, ◌-◌, ◌*◌, ◌==◌, ◌&&◌, Bool, false, if◌then◌else◌, List, [], ◌∷◌, map, fold, take, drop}
-use Rattle.castor_parse.specs.declared.token.Keyword.{Keyword}
-use Rattle.castor_parse.specs.declared.token.Symbol.{Symbol}
-use Rattle.castor_parse.specs.declared.token.Span.{Span}
-use Rattle.castor_parse.specs.declared.token.Kind.{Kind}
-use Rattle.castor_parse.specs.declared.token.Kind.TheVariants as kind
-use Rattle.castor_parse.specs.declared.token.Token.{Token}
+use Rattle.castor_tokens.specs.declared.token.Keyword.{Keyword}
+use Rattle.castor_tokens.specs.declared.token.Symbol.{Symbol}
+use Rattle.castor_tokens.specs.declared.token.Span.{Span}
+use Rattle.castor_tokens.specs.declared.token.Kind.{Kind}
+use Rattle.castor_tokens.specs.declared.token.Kind.TheVariants as kind
+use Rattle.castor_tokens.specs.declared.token.Token.{Token}
 use Rattle.castor_parse.specs.declared.tree.Word.{Word}
-use Rattle.castor_parse.specs.Tokens.{Bytes, quote}
+use Rattle.castor_tokens.specs.Tokens.{Bytes, quote}
 
 pub data Lexeme : Type 0 where
   -- a name, and where it stands

@@ -1,4 +1,3 @@
-pub mod Cut
 pub mod Formed
 pub mod Grammar
 pub mod Lexemes
@@ -7,4 +6,3 @@ pub mod Parsed
 pub mod Parser
 pub mod Place
 pub mod Sizes
-pub mod Tokens

@@ -2,8 +2,8 @@
 use Rattle.std.specs.Prelude.{ℕ, ◌+◌, ◌-◌, Bool, true, ◌&&◌, nat_le, [], ◌∷◌, length}
 use Rattle.std.specs.List.{list_all}
 use Rattle.castor_val.specs.Limits.{most_name_bytes, most_text_bytes}
-use Rattle.castor_parse.specs.declared.token.Keyword.TheVariants.{Not}
-use Rattle.castor_parse.specs.declared.token.Symbol.TheVariants.{OpenParen, CloseParen, OpenBracket, CloseBracket}
+use Rattle.castor_tokens.specs.declared.token.Keyword.TheVariants.{Not}
+use Rattle.castor_tokens.specs.declared.token.Symbol.TheVariants.{OpenParen, CloseParen, OpenBracket, CloseBracket}
 use Rattle.castor_parse.specs.Lexemes.{Lexeme, name, int, text, keyword, symbol, Lexemes}
 
 -- a name has at most 64 bytes, and a text literal at most 65,535 bytes after its quotes are undone

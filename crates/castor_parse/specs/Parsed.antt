@@ -1,13 +1,13 @@
 -- What a query file is parsed to, and why a text isn't.
 use Rattle.std.specs.Prelude.{◌≡◌, ◌<◌, ◌≤◌, ℕ, true, false, List, map, length, Some, None, IsUtf8}
 use Rattle.castor_val.specs.Limits.{most_depth, most_query_nodes, most_source_bytes}
-use Rattle.castor_parse.specs.declared.token.Token.{Token}
+use Rattle.castor_tokens.specs.declared.token.Token.{Token}
 use Rattle.castor_parse.specs.declared.tree.Decl.{Decl}
 use Rattle.castor_parse.specs.declared.tree.PRel.{PRel}
 use Rattle.castor_parse.specs.declared.tree.File.{File}
 use Rattle.castor_parse.specs.declared.query.ParseError.{ParseError}
 use Rattle.castor_parse.specs.declared.query.ParseError.TheVariants as refusal
-use Rattle.castor_parse.specs.Tokens.{Bytes, tokens_of}
+use Rattle.castor_tokens.specs.Tokens.{Bytes, tokens_of}
 use Rattle.castor_parse.specs.Lexemes.{lexemes}
 use Rattle.castor_parse.specs.Limits.{are_within_limits}
 use Rattle.castor_parse.specs.Grammar.{IsFile}

@@ -11,12 +11,12 @@ use Rattle.castor_alg.specs.declared.expr.Op.{Op}
 use Rattle.castor_alg.specs.declared.expr.Op.TheVariants as op
 use Rattle.castor_parse.specs.contracts.token.Keyword as keywords
 use Rattle.castor_parse.specs.contracts.token.Symbol as symbols
-use Rattle.castor_parse.specs.declared.token.Keyword.{Keyword}
-use Rattle.castor_parse.specs.declared.token.Keyword.TheVariants as word
-use Rattle.castor_parse.specs.declared.token.Symbol.{Symbol}
-use Rattle.castor_parse.specs.declared.token.Symbol.TheVariants as sign
-use Rattle.castor_parse.specs.declared.token.Kind.{Kind}
-use Rattle.castor_parse.specs.declared.token.Kind.TheVariants as kind
+use Rattle.castor_tokens.specs.declared.token.Keyword.{Keyword}
+use Rattle.castor_tokens.specs.declared.token.Keyword.TheVariants as word
+use Rattle.castor_tokens.specs.declared.token.Symbol.{Symbol}
+use Rattle.castor_tokens.specs.declared.token.Symbol.TheVariants as sign
+use Rattle.castor_tokens.specs.declared.token.Kind.{Kind}
+use Rattle.castor_tokens.specs.declared.token.Kind.TheVariants as kind
 use Rattle.castor_parse.specs.declared.parser.Stop.{Stop}
 use Rattle.castor_parse.specs.declared.parser.Stop.TheVariants as stop
 use Rattle.castor_parse.specs.declared.tree.Word.{Word}
@@ -33,7 +33,7 @@ use Rattle.castor_parse.specs.declared.tree.PBound.{PBound}
 use Rattle.castor_parse.specs.declared.tree.PBound.TheVariants as bound
 use Rattle.castor_parse.specs.declared.tree.PRel.{PRel}
 use Rattle.castor_parse.specs.declared.tree.PRel.TheVariants as r
-use Rattle.castor_parse.specs.Tokens.{Bytes}
+use Rattle.castor_tokens.specs.Tokens.{Bytes}
 use Rattle.castor_parse.specs.Lexemes.{Lexeme, name, int, text, keyword, symbol, Lexemes}
 
 -- where the parser is: the lexemes that are left, and what is left of its budget of nodes

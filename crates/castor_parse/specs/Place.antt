@@ -1,7 +1,7 @@
 -- What a parser shows, and what it keeps true.
 use Rattle.std.specs.Prelude.{All, IsUtf8}
 use Rattle.castor_parse.specs.declared.parser.Parser.TheInside.{Inside}
-use Rattle.castor_parse.specs.Cut.{Stands}
+use Rattle.castor_tokens.specs.Cut.{Stands}
 use Rattle.castor_parse.specs.Lexemes.{lexemes}
 use Rattle.castor_parse.specs.Parser.{State}
 

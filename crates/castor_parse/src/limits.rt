@@ -2,11 +2,11 @@
 
 ghost use Rattle.std.specs.Prelude.{◌≡◌, ◌≤◌, length, All};
 ghost use Rattle.std.specs.List.{list_all};
-ghost use Rattle.castor_parse.specs.Cut.{Stands};
+ghost use Rattle.castor_tokens.specs.Cut.{Stands};
 ghost use Rattle.castor_parse.specs.Lexemes.{lexeme_of, lexemes, undoubled};
 ghost use Rattle.castor_parse.specs.Limits as spec;
 
-use crate::token::{Keyword, Kind, Symbol, Token};
+use castor_tokens::{Keyword, Kind, Symbol, Token};
 use castor_val::{MAX_NAME, MAX_TEXT};
 
 const MAX_OPEN: u64 = 256;

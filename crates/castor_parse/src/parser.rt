@@ -1,13 +1,13 @@
 //! A parser over the tokens of a text, and the steps that every rule is made of.
 
 ghost use Rattle.std.specs.Prelude.{◌≡◌, ◌≤◌, length, All, IfOk, IsUtf8, Some};
-ghost use Rattle.castor_parse.specs.Cut.{Stands, StandsAt};
+ghost use Rattle.castor_tokens.specs.Cut.{Stands, StandsAt};
 ghost use Rattle.castor_parse.specs.Lexemes.{lexemes, slice, inside, word_at, number_of, undoubled, IsNumber};
 ghost use Rattle.castor_parse.specs.Parser as spec;
 ghost use Rattle.castor_parse.specs.Parser.{Reads};
 
-use crate::token::{Keyword, Kind, Span, Symbol, Token};
 use crate::tree::Word;
+use castor_tokens::{Keyword, Kind, Span, Symbol, Token};
 use castor_val::{MAX_QUERY_NODES, Memory, Text};
 use std::alloc::{AllocError, AllocFailed, Global};
 use std::marker::Model;

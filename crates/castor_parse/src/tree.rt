@@ -1,7 +1,7 @@
 //! The trees of query files, in which everything is still called by its name.
 
-use crate::token::Span;
 use castor_alg::Op;
+use castor_tokens::Span;
 use castor_val::{Text, Ty, Value};
 use sqlite_items::{Boxed, Items};
 

@@ -1,6 +1,6 @@
 //! Texts cut into tokens.
 
-use castor_parse::{Keyword, Kind, Symbol, tokens};
+use castor_tokens::{Keyword, Kind, Symbol, tokens};
 use std::process::Abort;
 use std::test::Fail;
 

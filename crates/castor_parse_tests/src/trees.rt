@@ -1,7 +1,8 @@
 //! Texts with their trees, read off the grammar by hand.
 
 use crate::shown::{refusal, tree_of};
-use castor_parse::{PRel, Span, parse};
+use castor_parse::{PRel, parse};
+use castor_tokens::Span;
 use std::alloc::{AllocError, Global};
 use std::process::Abort;
 use std::test::Fail;

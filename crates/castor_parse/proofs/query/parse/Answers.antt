@@ -1,7 +1,7 @@
 use Rattle.std.proofs.Common.{◌≡◌, true, false, Some, length, sym, ◌∙◌, subst}
 use Rattle.std.proofs.lemmas.Result.{IfOk-weaker, IfErr-weaker}
-use Rattle.castor_parse.specs.Cut.{AreInOrder, AreSpansInOrder}
-use Rattle.castor_parse.specs.Tokens.{tokens_of}
+use Rattle.castor_tokens.specs.Cut.{AreInOrder, AreSpansInOrder}
+use Rattle.castor_tokens.specs.Tokens.{tokens_of}
 use Rattle.castor_parse.specs.Lexemes.{lexemes}
 use Rattle.castor_parse.specs.Limits.{are_within_limits}
 use Rattle.castor_parse.specs.Parsed.{AreTokens, IsRead, IsUnread, IsRefused, by_tokens}

@@ -1,8 +1,8 @@
 use Rattle.std.proofs.Common.{◌≡◌, ◌-◌, ◌<◌, true, take, get_or, sym, subst, arith}
 use Rattle.std.proofs.lemmas.Grind.{common_steps}
-use Rattle.castor_parse.specs.Tokens.{is_name}
-use Rattle.castor_parse.proofs.TokenLaws.{name_is}
-use Rattle.castor_parse.proofs.cut.word.Goals as goal
+use Rattle.castor_tokens.specs.Tokens.{is_name}
+use Rattle.castor_tokens.proofs.TokenLaws.{name_is}
+use Rattle.castor_tokens.proofs.cut.word.Goals as goal
 
 pub returns-in-None-clause-stands : goal.returns-in-None-clause-stands
 returns-in-None-clause-stands c =

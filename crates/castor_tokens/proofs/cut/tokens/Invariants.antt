@@ -1,9 +1,9 @@
 use Rattle.std.proofs.Common.{◌≡◌, ◌-◌, ◌≤◌, length, drop}
 use Rattle.std.specs.Prelude.{All}
-use Rattle.castor_parse.specs.Cut.{Stands, AreInOrder}
-use Rattle.castor_parse.specs.Tokens.{tokens_of, tokens_from}
-use Rattle.castor_parse.proofs.TokenLaws.{after}
-use Rattle.castor_parse.proofs.cut.tokens.Given as goal
+use Rattle.castor_tokens.specs.Cut.{Stands, AreInOrder}
+use Rattle.castor_tokens.specs.Tokens.{tokens_of, tokens_from}
+use Rattle.castor_tokens.proofs.TokenLaws.{after}
+use Rattle.castor_tokens.proofs.cut.tokens.Given as goal
 
 -- the tokens so far and those of what is left are those of the text
 abbrev pub invariant-cut : goal.invariant-cut

@@ -3,8 +3,8 @@
 ghost use Rattle.std.specs.Prelude.{◌≡◌, ◌<◌, ◌≤◌, ◌+◌, ◌-◌, ◌^◌, All, length, take, drop, slice_index, IfOk, IfErr, IfSome, Some, true, false, find, nat_eq};
 ghost use Rattle.std.specs.List.{starts_with};
 ghost use Rattle.std.specs.Str.{bytes_eq};
-ghost use Rattle.castor_parse.specs.Tokens as spec;
-ghost use Rattle.castor_parse.specs.Cut.{IsWithin, StandsInFront, Stands, AreInOrder, IsCutError};
+ghost use Rattle.castor_tokens.specs.Tokens as spec;
+ghost use Rattle.castor_tokens.specs.Cut.{IsWithin, StandsInFront, Stands, AreInOrder, IsCutError};
 
 use crate::token::{Keyword, Kind, Span, Symbol, Token};
 use std::alloc::{AllocError, AllocFailed, Global};
@@ -18,7 +18,7 @@ pub enum CutError {
 }
 
 impl From<AllocError> for CutError {
-    ghost use Rattle.castor_parse.specs.declared.cut.CutError.TheVariants.{Memory};
+    ghost use Rattle.castor_tokens.specs.declared.cut.CutError.TheVariants.{Memory};
 
     ghost from_gives = { λ _ e. e ≡ Memory };
 
@@ -28,7 +28,7 @@ impl From<AllocError> for CutError {
 }
 
 impl<T: Drop> From<AllocFailed<T>> for CutError {
-    ghost use Rattle.castor_parse.specs.declared.cut.CutError.TheVariants.{Memory};
+    ghost use Rattle.castor_tokens.specs.declared.cut.CutError.TheVariants.{Memory};
 
     ghost from_gives = { λ _ e. e ≡ Memory };
 

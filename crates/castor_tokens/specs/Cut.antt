@@ -1,14 +1,14 @@
 -- What the cutting of a text promises.
 use Rattle.std.specs.Prelude.{◌≡◌, ◌<◌, ◌≤◌, ℕ, ◌+◌, ◌-◌, List, [], ◌∷◌, length, take, drop, slice_index, true, None}
-use Rattle.castor_parse.specs.declared.token.Kind.{Kind}
-use Rattle.castor_parse.specs.declared.token.Kind.TheVariants as kind
-use Rattle.castor_parse.specs.declared.token.Span.{Span}
-use Rattle.castor_parse.specs.declared.token.Token.{Token}
-use Rattle.castor_parse.specs.declared.cut.CutError.{CutError}
-use Rattle.castor_parse.specs.declared.cut.CutError.TheVariants.{Syntax, Memory}
-use Rattle.castor_parse.specs.declared.cut.Piece.{Piece}
-use Rattle.castor_parse.specs.declared.cut.Piece.TheVariants as piece
-use Rattle.castor_parse.specs.Tokens.{Bytes, quote, is_name, tokens_of}
+use Rattle.castor_tokens.specs.declared.token.Kind.{Kind}
+use Rattle.castor_tokens.specs.declared.token.Kind.TheVariants as kind
+use Rattle.castor_tokens.specs.declared.token.Span.{Span}
+use Rattle.castor_tokens.specs.declared.token.Token.{Token}
+use Rattle.castor_tokens.specs.declared.cut.CutError.{CutError}
+use Rattle.castor_tokens.specs.declared.cut.CutError.TheVariants.{Syntax, Memory}
+use Rattle.castor_tokens.specs.declared.cut.Piece.{Piece}
+use Rattle.castor_tokens.specs.declared.cut.Piece.TheVariants as piece
+use Rattle.castor_tokens.specs.Tokens.{Bytes, quote, is_name, tokens_of}
 
 -- A token of this kind stands from a place to another: it lies within the text, a name begins and ends with
 -- ASCII and is a name, and a text literal begins and ends with a quote.

@@ -1,7 +1,7 @@
 //! Tokens: the reserved words, the symbols, and where a token stands.
 
 ghost use Rattle.std.specs.Prelude.{◌≡◌, ◌≤◌, length};
-ghost use Rattle.castor_parse.specs.Tokens.{keyword_spelling, symbol_spelling};
+ghost use Rattle.castor_tokens.specs.Tokens.{keyword_spelling, symbol_spelling};
 
 /// Where something stands in a text: the place of its first byte and the place after its last one.
 #[derive(Clone, Copy, Debug, PartialEq, Eq)]

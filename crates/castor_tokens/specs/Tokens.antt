@@ -4,17 +4,17 @@ use Rattle.std.specs.Char.{is_ascii_digit, is_ascii_alphabetic, is_ascii_alphanu
 use Rattle.std.specs.List.{list_all, prefix_len, starts_with}
 use Rattle.std.specs.Option.{option_map}
 use Rattle.std.specs.Str.{bytes_eq}
-use Rattle.castor_parse.specs.declared.token.Keyword.{Keyword}
-use Rattle.castor_parse.specs.declared.token.Keyword.TheVariants as word
-use Rattle.castor_parse.specs.declared.token.Symbol.{Symbol}
-use Rattle.castor_parse.specs.declared.token.Symbol.TheVariants as sign
-use Rattle.castor_parse.specs.declared.token.Kind.{Kind}
-use Rattle.castor_parse.specs.declared.token.Kind.TheVariants as kind
-use Rattle.castor_parse.specs.declared.token.Token.{Token}
-use Rattle.castor_parse.specs.declared.cut.Class.{Class}
-use Rattle.castor_parse.specs.declared.cut.Class.TheVariants as class
-use Rattle.castor_parse.specs.declared.cut.Piece.{Piece}
-use Rattle.castor_parse.specs.declared.cut.Piece.TheVariants as piece
+use Rattle.castor_tokens.specs.declared.token.Keyword.{Keyword}
+use Rattle.castor_tokens.specs.declared.token.Keyword.TheVariants as word
+use Rattle.castor_tokens.specs.declared.token.Symbol.{Symbol}
+use Rattle.castor_tokens.specs.declared.token.Symbol.TheVariants as sign
+use Rattle.castor_tokens.specs.declared.token.Kind.{Kind}
+use Rattle.castor_tokens.specs.declared.token.Kind.TheVariants as kind
+use Rattle.castor_tokens.specs.declared.token.Token.{Token}
+use Rattle.castor_tokens.specs.declared.cut.Class.{Class}
+use Rattle.castor_tokens.specs.declared.cut.Class.TheVariants as class
+use Rattle.castor_tokens.specs.declared.cut.Piece.{Piece}
+use Rattle.castor_tokens.specs.declared.cut.Piece.TheVariants as piece
 
 -- the bytes of a text
 abbrev pub Bytes : Type 0

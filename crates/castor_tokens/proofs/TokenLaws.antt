@@ -3,15 +3,15 @@ use Rattle.std.proofs.Common.{◌≡◌, ℕ, zero, suc, ◌+◌, ◌-◌, ◌<�
 use Rattle.std.specs.Option.{option_map}
 use Rattle.std.specs.Prelude.{is_none, map}
 use Rattle.std.specs.List.{list_all}
-use Rattle.castor_parse.specs.declared.cut.Class.{Class}
-use Rattle.castor_parse.specs.declared.cut.Class.TheVariants as class
+use Rattle.castor_tokens.specs.declared.cut.Class.{Class}
+use Rattle.castor_tokens.specs.declared.cut.Class.TheVariants as class
 use Rattle.std.proofs.lemmas.List.{drop_all, get_or-drop}
-use Rattle.castor_parse.specs.declared.token.Token.{Token}
-use Rattle.castor_parse.specs.declared.token.Kind.{Kind}
-use Rattle.castor_parse.specs.declared.token.Kind.TheVariants as kind
-use Rattle.castor_parse.specs.declared.cut.Piece.TheVariants as piece
-use Rattle.castor_parse.specs.Cut.{StandsAt, AreInOrder, AreSpansInOrder}
-use Rattle.castor_parse.specs.Tokens.{Bytes, is_in, run, begins_word, keyword_of, is_name, tokens_of, tokens_from, piece_of, with_piece, token_at}
+use Rattle.castor_tokens.specs.declared.token.Token.{Token}
+use Rattle.castor_tokens.specs.declared.token.Kind.{Kind}
+use Rattle.castor_tokens.specs.declared.token.Kind.TheVariants as kind
+use Rattle.castor_tokens.specs.declared.cut.Piece.TheVariants as piece
+use Rattle.castor_tokens.specs.Cut.{StandsAt, AreInOrder, AreSpansInOrder}
+use Rattle.castor_tokens.specs.Tokens.{Bytes, is_in, run, begins_word, keyword_of, is_name, tokens_of, tokens_from, piece_of, with_piece, token_at}
 
 -- these tokens, and those that come after them
 abbrev pub after : List Token → Option (List Token) → Option (List Token)

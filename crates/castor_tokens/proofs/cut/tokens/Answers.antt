@@ -2,10 +2,10 @@ use Rattle.std.proofs.Common.{is_ok, ◌+◌, sym, ap, arith, length-drop}
 use Rattle.std.proofs.ResultArms.{chosen}
 use Rattle.std.proofs.lemmas.List.{take_rest}
 use Rattle.std.proofs.lemmas.List.Elements.{All-nil, All-push}
-use Rattle.castor_parse.proofs.TokenLaws.{after-nil, cut_push, cut_pass, in_order_later, in_order_push, stands_later}
-use Rattle.castor_parse.specs.Tokens.{tokens_of, token_at}
-use Rattle.castor_parse.specs.Cut.{Stands}
-use Rattle.castor_parse.proofs.cut.tokens.Goals as goal
+use Rattle.castor_tokens.proofs.TokenLaws.{after-nil, cut_push, cut_pass, in_order_later, in_order_push, stands_later}
+use Rattle.castor_tokens.specs.Tokens.{tokens_of, token_at}
+use Rattle.castor_tokens.specs.Cut.{Stands}
+use Rattle.castor_tokens.proofs.cut.tokens.Goals as goal
 
 pub cut-init : goal.cut-init
 cut-init c = let text = c.args.text.now in rw (c.new-tokens.ensures.items) (record { all = sym (after-nil (tokens_of text)); order = omega arith; stand = All-nil (Stands text); within = omega arith })

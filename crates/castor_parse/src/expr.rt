@@ -4,10 +4,11 @@ ghost use Rattle.std.specs.Prelude.{◌≡◌, ◌<◌, ◌≤◌, ◌^◌, pos,
 ghost use Rattle.castor_parse.specs.Parser as spec;
 ghost use Rattle.castor_parse.specs.Parser.{Reads};
 
+use crate::kept::{before, beside};
 use crate::parser::{Parser, Stop};
-use crate::token::{Keyword, Kind, Symbol};
 use crate::tree::{PCol, PExpr, Word};
-use castor_alg::Op;
+use castor_alg::{Op, both, boxed};
+use castor_tokens::{Keyword, Kind, Symbol};
 use castor_val::{Ty, Value};
 use sqlite_items::Boxed;
 
@@ -100,8 +101,8 @@ impl<'a> Parser<'a> {
     fn bin(&mut self, op: Op, left: PExpr, right: PExpr) -> Result<PExpr, Stop>
         ensures { Reads (spec.expr_node (PExpr.Bin op left right) self.old) result self.new }
     {
-        let left = Boxed::new(self.alloc(), left)?;
-        let right = Boxed::new(self.alloc(), right)?;
+        let alloc = self.alloc();
+        let (left, right) = both(boxed(alloc, Ok(left)), boxed(alloc, Ok(right)))?;
         Ok(self.expr_node(PExpr::Bin(op, left, right)))
     }
 
@@ -130,8 +131,8 @@ impl<'a> Parser<'a> {
                 return Ok(left);
             };
             self.advance();
-            let right = self.and_expr(depth)?;
-            left = self.bin(op, left, right)?;
+            let (first, second) = beside(left, self.and_expr(depth))?;
+            left = self.bin(op, first, second)?;
         }
         Ok(left)
     }
@@ -148,8 +149,8 @@ impl<'a> Parser<'a> {
                 return Ok(left);
             };
             self.advance();
-            let right = self.not_expr(depth)?;
-            left = self.bin(op, left, right)?;
+            let (first, second) = beside(left, self.not_expr(depth))?;
+            left = self.bin(op, first, second)?;
         }
         Ok(left)
     }
@@ -176,7 +177,7 @@ impl<'a> Parser<'a> {
             return Ok(left);
         };
         self.advance();
-        let right = self.sum(depth)?;
+        let (left, right) = beside(left, self.sum(depth))?;
         self.bin(op, left, right)
     }
 
@@ -192,8 +193,8 @@ impl<'a> Parser<'a> {
                 return Ok(left);
             };
             self.advance();
-            let right = self.term(depth)?;
-            left = self.bin(op, left, right)?;
+            let (first, second) = beside(left, self.term(depth))?;
+            left = self.bin(op, first, second)?;
         }
         Ok(left)
     }
@@ -210,8 +211,8 @@ impl<'a> Parser<'a> {
                 return Ok(left);
             };
             self.advance();
-            let right = self.prim(depth)?;
-            left = self.bin(op, left, right)?;
+            let (first, second) = beside(left, self.prim(depth))?;
+            left = self.bin(op, first, second)?;
         }
         Ok(left)
     }
@@ -246,13 +247,20 @@ impl<'a> Parser<'a> {
     {
         self.advance();
         self.expect_symbol(Symbol::OpenParen)?;
-        let condition = Boxed::new(self.alloc(), self.expr(depth)?)?;
-        self.expect_symbol(Symbol::Comma)?;
-        let yes = Boxed::new(self.alloc(), self.expr(depth)?)?;
-        self.expect_symbol(Symbol::Comma)?;
-        let no = Boxed::new(self.alloc(), self.expr(depth)?)?;
-        self.expect_symbol(Symbol::CloseParen)?;
+        let condition = self.boxed_expr(depth)?;
+        let condition = before(condition, self.expect_symbol(Symbol::Comma))?;
+        let found = beside(condition, self.boxed_expr(depth))?;
+        let found = before(found, self.expect_symbol(Symbol::Comma))?;
+        let found = beside(found, self.boxed_expr(depth))?;
+        let ((condition, yes), no) = before(found, self.expect_symbol(Symbol::CloseParen))?;
         Ok(self.expr_node(PExpr::If(condition, yes, no)))
+    }
+
+    #[cycle(expr)]
+    fn boxed_expr(&mut self, depth: usize) -> Result<Boxed<PExpr>, Stop>
+        ensures { Reads (spec.expr_at depth self.old) result self.new }
+    {
+        Ok(Boxed::new(self.alloc(), self.expr(depth)?)?)
     }
 
     /// `"(" expr ")"`, which makes no node.
@@ -263,8 +271,7 @@ impl<'a> Parser<'a> {
     {
         self.advance();
         let expr = self.expr(depth)?;
-        self.expect_symbol(Symbol::CloseParen)?;
-        Ok(expr)
+        before(expr, self.expect_symbol(Symbol::CloseParen))
     }
 
     /// How many `not` come next; they are passed.

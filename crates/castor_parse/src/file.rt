@@ -4,10 +4,11 @@ ghost use Rattle.std.specs.Prelude.{◌≡◌, [], IfOk};
 ghost use Rattle.castor_parse.specs.Parser as spec;
 ghost use Rattle.castor_parse.specs.Parser.{Reads};
 
+use crate::kept::{before, beside};
 use crate::parser::{Parser, Stop};
 use crate::rel::{only, separated};
-use crate::token::{Keyword, Kind, Symbol};
 use crate::tree::{Decl, PRel, Word};
+use castor_tokens::{Keyword, Kind, Symbol};
 use castor_val::Ty;
 use sqlite_items::Items;
 
@@ -43,7 +44,7 @@ impl<'a> Parser<'a> {
         ensures { Reads (spec.read_column self.old) result self.new }
     {
         let name = self.name()?;
-        Ok((name, self.ty()?))
+        beside(name, self.ty())
     }
 
     /// `NAME type { "," NAME type }`
@@ -61,10 +62,10 @@ impl<'a> Parser<'a> {
     {
         self.advance();
         let name = self.name()?;
-        self.expect_symbol(Symbol::OpenParen)?;
-        let columns = self.columns()?;
-        self.expect_symbol(Symbol::CloseParen)?;
-        self.expect_symbol(Symbol::Semicolon)?;
+        let name = before(name, self.expect_symbol(Symbol::OpenParen))?;
+        let found = beside(name, self.columns())?;
+        let found = before(found, self.expect_symbol(Symbol::CloseParen))?;
+        let (name, columns) = before(found, self.expect_symbol(Symbol::Semicolon))?;
         Ok(Decl::Table(name, columns))
     }
 
@@ -75,8 +76,8 @@ impl<'a> Parser<'a> {
     {
         self.advance();
         let name = self.name()?;
-        let ty = self.ty()?;
-        self.expect_symbol(Symbol::Semicolon)?;
+        let found = beside(name, self.ty())?;
+        let (name, ty) = before(found, self.expect_symbol(Symbol::Semicolon))?;
         Ok(Decl::Param(name, ty))
     }
 
@@ -96,17 +97,25 @@ impl<'a> Parser<'a> {
         Ok(found)
     }
 
+    /// The end of the text.
+    #[tactic(auto, unfolding(crate::specs::Parser::read_end))]
+    fn end(&self) -> Result<(), Stop>
+        ensures { Reads (spec.read_end self.now) result self.now }
+    {
+        match self.peek() {
+            None => Ok(()),
+            Some(_) => Err(Stop::Syntax),
+        }
+    }
+
     /// `file := { table | param } "query" rel`
-    #[tactic(auto, unfolding(crate::specs::Parser::read_file, crate::specs::Parser::read_end))]
+    #[tactic(auto, unfolding(crate::specs::Parser::read_file))]
     pub fn file(&mut self) -> Result<(Items<Decl>, PRel), Stop>
         ensures { Reads (spec.read_file self.old) result self.new }
     {
         let decls = self.decls()?;
-        self.expect_keyword(Keyword::Query)?;
-        let query = self.rel(NESTING)?;
-        match self.peek() {
-            None => Ok((decls, query)),
-            Some(_) => Err(Stop::Syntax),
-        }
+        let decls = before(decls, self.expect_keyword(Keyword::Query))?;
+        let found = beside(decls, self.rel(NESTING))?;
+        before(found, self.end())
     }
 }

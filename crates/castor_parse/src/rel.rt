@@ -4,9 +4,10 @@ ghost use Rattle.std.specs.Prelude.{◌≡◌, [], ◌∷◌, IfOk, Some};
 ghost use Rattle.castor_parse.specs.Parser as spec;
 ghost use Rattle.castor_parse.specs.Parser.{Reads};
 
+use crate::kept::{before, beside};
 use crate::parser::{Parser, Stop};
-use crate::token::{Keyword, Kind, Symbol};
 use crate::tree::{Item, PAgg, PBound, PCol, PExpr, PRel, Word};
+use castor_tokens::{Keyword, Kind, Symbol};
 use sqlite_items::{Boxed, Items};
 use std::alloc::{AllocError, Global};
 
@@ -83,7 +84,7 @@ impl<'a> Parser<'a> {
         ensures { Reads (spec.read_item (spec.expr_at depth) self.old) result self.new }
     {
         let expr = self.expr(depth)?;
-        let name = self.alias()?;
+        let (expr, name) = beside(expr, self.alias())?;
         Ok(Item { expr, name })
     }
 
@@ -139,8 +140,7 @@ impl<'a> Parser<'a> {
         self.advance();
         self.expect_symbol(Symbol::OpenParen)?;
         let col = self.col()?;
-        self.expect_symbol(Symbol::CloseParen)?;
-        Ok(col)
+        before(col, self.expect_symbol(Symbol::CloseParen))
     }
 
     #[tactic(auto, unfolding(crate::specs::Parser::read_count))]
@@ -173,7 +173,7 @@ impl<'a> Parser<'a> {
         ensures { Reads (spec.read_agg self.old) result self.new }
     {
         let aggregate = self.aggregate()?;
-        Ok((aggregate, self.alias()?))
+        beside(aggregate, self.alias())
     }
 
     fn falls(&mut self) -> bool
@@ -248,8 +248,7 @@ impl<'a> Parser<'a> {
     {
         self.expect_symbol(Symbol::OpenBracket)?;
         let items = self.items(depth)?;
-        self.expect_symbol(Symbol::CloseBracket)?;
-        Ok(items)
+        before(items, self.expect_symbol(Symbol::CloseBracket))
     }
 
     /// `"[" expr { "," expr } "]"`
@@ -259,8 +258,7 @@ impl<'a> Parser<'a> {
     {
         self.expect_symbol(Symbol::OpenBracket)?;
         let exprs = self.exprs(depth)?;
-        self.expect_symbol(Symbol::CloseBracket)?;
-        Ok(exprs)
+        before(exprs, self.expect_symbol(Symbol::CloseBracket))
     }
 
     /// `"[" key { "," key } "]"`
@@ -270,8 +268,7 @@ impl<'a> Parser<'a> {
     {
         self.expect_symbol(Symbol::OpenBracket)?;
         let keys = self.keys()?;
-        self.expect_symbol(Symbol::CloseBracket)?;
-        Ok(keys)
+        before(keys, self.expect_symbol(Symbol::CloseBracket))
     }
 
     /// `"[" [ col { "," col } ] "]"`
@@ -284,8 +281,7 @@ impl<'a> Parser<'a> {
             return Ok(Items::new(self.alloc()));
         }
         let cols = self.cols()?;
-        self.expect_symbol(Symbol::CloseBracket)?;
-        Ok(cols)
+        before(cols, self.expect_symbol(Symbol::CloseBracket))
     }
 
     /// `"[" [ agg { "," agg } ] "]"`
@@ -298,8 +294,7 @@ impl<'a> Parser<'a> {
             return Ok(Items::new(self.alloc()));
         }
         let aggs = self.aggs()?;
-        self.expect_symbol(Symbol::CloseBracket)?;
-        Ok(aggs)
+        before(aggs, self.expect_symbol(Symbol::CloseBracket))
     }
 
     /// `"scalar" "(" item ")"`, behind the parenthesis that opens.
@@ -308,7 +303,7 @@ impl<'a> Parser<'a> {
         ensures { Reads (spec.read_scalar (spec.rel_at depth) (spec.expr_at depth) self.old) result self.new }
     {
         let item = self.item(depth)?;
-        self.expect_symbol(Symbol::CloseParen)?;
+        let item = before(item, self.expect_symbol(Symbol::CloseParen))?;
         Ok(self.rel_node(PRel::Scalar(item)))
     }
 
@@ -330,8 +325,7 @@ impl<'a> Parser<'a> {
         ensures { Reads (spec.followed (spec.bracketed (spec.read_item (spec.expr_at depth))) Symbol.Comma self.old) result self.new }
     {
         let items = self.bracketed_items(depth)?;
-        self.expect_symbol(Symbol::Comma)?;
-        Ok(items)
+        before(items, self.expect_symbol(Symbol::Comma))
     }
 
     /// `expr ","`
@@ -340,8 +334,7 @@ impl<'a> Parser<'a> {
         ensures { Reads (spec.followed (spec.expr_at depth) Symbol.Comma self.old) result self.new }
     {
         let condition = self.expr(depth)?;
-        self.expect_symbol(Symbol::Comma)?;
-        Ok(condition)
+        before(condition, self.expect_symbol(Symbol::Comma))
     }
 
     /// `"[" expr { "," expr } "]" ")"`
@@ -350,8 +343,7 @@ impl<'a> Parser<'a> {
         ensures { Reads (spec.followed (spec.bracketed (spec.expr_at depth)) Symbol.CloseParen self.old) result self.new }
     {
         let keys = self.bracketed_exprs(depth)?;
-        self.expect_symbol(Symbol::CloseParen)?;
-        Ok(keys)
+        before(keys, self.expect_symbol(Symbol::CloseParen))
     }
 
     /// `lower ","`
@@ -360,8 +352,7 @@ impl<'a> Parser<'a> {
         ensures { Reads (spec.followed (spec.read_lower (spec.expr_at depth)) Symbol.Comma self.old) result self.new }
     {
         let bound = self.lower(depth)?;
-        self.expect_symbol(Symbol::Comma)?;
-        Ok(bound)
+        before(bound, self.expect_symbol(Symbol::Comma))
     }
 
     /// `upper ")"`
@@ -370,8 +361,7 @@ impl<'a> Parser<'a> {
         ensures { Reads (spec.followed (spec.read_upper (spec.expr_at depth)) Symbol.CloseParen self.old) result self.new }
     {
         let bound = self.upper(depth)?;
-        self.expect_symbol(Symbol::CloseParen)?;
-        Ok(bound)
+        before(bound, self.expect_symbol(Symbol::CloseParen))
     }
 
     /// `"[" [ col { "," col } ] "]" ","`
@@ -380,8 +370,7 @@ impl<'a> Parser<'a> {
         ensures { Reads (spec.followed (spec.maybe_bracketed spec.read_col) Symbol.Comma self.old) result self.new }
     {
         let keys = self.bracketed_cols()?;
-        self.expect_symbol(Symbol::Comma)?;
-        Ok(keys)
+        before(keys, self.expect_symbol(Symbol::Comma))
     }
 
     /// `"[" [ agg { "," agg } ] "]" ","`
@@ -390,8 +379,7 @@ impl<'a> Parser<'a> {
         ensures { Reads (spec.followed (spec.maybe_bracketed spec.read_agg) Symbol.Comma self.old) result self.new }
     {
         let aggs = self.bracketed_aggs()?;
-        self.expect_symbol(Symbol::Comma)?;
-        Ok(aggs)
+        before(aggs, self.expect_symbol(Symbol::Comma))
     }
 
     /// `"[" key { "," key } "]" ","`
@@ -400,8 +388,7 @@ impl<'a> Parser<'a> {
         ensures { Reads (spec.followed (spec.bracketed spec.read_key) Symbol.Comma self.old) result self.new }
     {
         let keys = self.bracketed_keys()?;
-        self.expect_symbol(Symbol::Comma)?;
-        Ok(keys)
+        before(keys, self.expect_symbol(Symbol::Comma))
     }
 }
 
@@ -472,23 +459,25 @@ impl<'a> Parser<'a> {
         match keyword {
             Keyword::Select => {
                 let items = self.select_list(depth)?;
-                let operand = self.operand(depth, Symbol::CloseParen)?;
+                let (items, operand) = beside(items, self.operand(depth, Symbol::CloseParen))?;
                 Ok(self.rel_node(PRel::Select(items, operand)))
             }
             Keyword::Filter => {
                 let condition = self.condition(depth)?;
-                let operand = self.operand(depth, Symbol::CloseParen)?;
+                let found = beside(condition, self.operand(depth, Symbol::CloseParen));
+                let (condition, operand) = found?;
                 Ok(self.rel_node(PRel::Filter(condition, operand)))
             }
             Keyword::Groupby => {
                 let keys = self.group_keys()?;
-                let aggs = self.group_aggs()?;
-                let operand = self.operand(depth, Symbol::CloseParen)?;
+                let lists = beside(keys, self.group_aggs())?;
+                let found = beside(lists, self.operand(depth, Symbol::CloseParen));
+                let ((keys, aggs), operand) = found?;
                 Ok(self.rel_node(PRel::Group(keys, aggs, operand)))
             }
             Keyword::Orderby => {
                 let keys = self.order_keys()?;
-                let operand = self.operand(depth, Symbol::CloseParen)?;
+                let (keys, operand) = beside(keys, self.operand(depth, Symbol::CloseParen))?;
                 Ok(self.rel_node(PRel::Order(keys, operand)))
             }
             Keyword::Dedup => {
@@ -506,8 +495,7 @@ impl<'a> Parser<'a> {
         ensures { Reads (spec.followed (spec.rel_at depth) end self.old) result self.new }
     {
         let operand = Boxed::new(self.alloc(), self.rel(depth)?)?;
-        self.expect_symbol(end)?;
-        Ok(operand)
+        before(operand, self.expect_symbol(end))
     }
 
     /// `rel { "," rel } ")"`
@@ -517,8 +505,7 @@ impl<'a> Parser<'a> {
         ensures { Reads (spec.read_rels (spec.rel_at depth) (spec.expr_at depth) self.old) result self.new }
     {
         let operands = self.rels(depth)?;
-        self.expect_symbol(Symbol::CloseParen)?;
-        Ok(operands)
+        before(operands, self.expect_symbol(Symbol::CloseParen))
     }
 
     /// `rel { "," rel }`
@@ -537,8 +524,9 @@ impl<'a> Parser<'a> {
         ensures { Reads (spec.read_join (spec.rel_at depth) (spec.expr_at depth) self.old) result self.new }
     {
         let condition = self.condition(depth)?;
-        let left = self.operand(depth, Symbol::Comma)?;
-        let right = self.operand(depth, Symbol::CloseParen)?;
+        let found = beside(condition, self.operand(depth, Symbol::Comma))?;
+        let found = beside(found, self.operand(depth, Symbol::CloseParen));
+        let ((condition, left), right) = found?;
         Ok(self.rel_node(PRel::Join(condition, left, right)))
     }
 
@@ -549,10 +537,9 @@ impl<'a> Parser<'a> {
         ensures { Reads (spec.read_source (spec.rel_at depth) (spec.expr_at depth) self.old) result self.new }
     {
         let source = Boxed::new(self.alloc(), self.rel(depth)?)?;
-        self.expect_keyword(Keyword::As)?;
-        let scope = self.name()?;
-        self.expect_symbol(Symbol::Comma)?;
-        Ok((source, scope))
+        let source = before(source, self.expect_keyword(Keyword::As))?;
+        let found = beside(source, self.name())?;
+        before(found, self.expect_symbol(Symbol::Comma))
     }
 
     /// `rel "as" NAME "," rel ")"`
@@ -561,8 +548,9 @@ impl<'a> Parser<'a> {
     fn binder(&mut self, depth: usize) -> Result<(Word, Boxed<PRel>, Boxed<PRel>), Stop>
         ensures { Reads (spec.read_binder (spec.rel_at depth) (spec.expr_at depth) self.old) result self.new }
     {
-        let (source, scope) = self.source(depth)?;
-        let body = self.operand(depth, Symbol::CloseParen)?;
+        let source = self.source(depth)?;
+        let found = beside(source, self.operand(depth, Symbol::CloseParen));
+        let ((source, scope), body) = found?;
         Ok((scope, source, body))
     }
 
@@ -572,9 +560,9 @@ impl<'a> Parser<'a> {
     fn hash(&mut self, depth: usize) -> Result<PRel, Stop>
         ensures { Reads (spec.read_hash (spec.rel_at depth) (spec.expr_at depth) self.old) result self.new }
     {
-        let (source, scope) = self.source(depth)?;
-        let body = self.operand(depth, Symbol::Comma)?;
-        let keys = self.hash_keys(depth)?;
+        let source = self.source(depth)?;
+        let found = beside(source, self.operand(depth, Symbol::Comma))?;
+        let (((source, scope), body), keys) = beside(found, self.hash_keys(depth))?;
         Ok(self.rel_node(PRel::Hash(scope, source, body, keys)))
     }
 
@@ -584,10 +572,10 @@ impl<'a> Parser<'a> {
     fn ordered(&mut self, depth: usize) -> Result<PRel, Stop>
         ensures { Reads (spec.read_ordered (spec.rel_at depth) (spec.expr_at depth) self.old) result self.new }
     {
-        let (source, scope) = self.source(depth)?;
-        let body = self.operand(depth, Symbol::Comma)?;
-        let lower = self.lower_bound(depth)?;
-        let upper = self.upper_bound(depth)?;
+        let source = self.source(depth)?;
+        let found = beside(source, self.operand(depth, Symbol::Comma))?;
+        let found = beside(found, self.lower_bound(depth))?;
+        let ((((source, scope), body), lower), upper) = beside(found, self.upper_bound(depth))?;
         Ok(self.rel_node(PRel::Ord(scope, source, body, lower, upper)))
     }
 }

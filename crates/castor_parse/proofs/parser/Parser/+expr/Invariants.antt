@@ -6,31 +6,34 @@ abbrev pub decreases-expr : goal.decreases-expr
 decreases-expr l = 10 * l.depth
 
 abbrev pub decreases-if_expr : goal.decreases-if_expr
-decreases-if_expr l = 10 * l.depth + 1
+decreases-if_expr l = 10 * l.depth + 2
+
+abbrev pub decreases-boxed_expr : goal.decreases-boxed_expr
+decreases-boxed_expr l = 10 * l.depth + 1
 
 abbrev pub decreases-parenthesized : goal.decreases-parenthesized
 decreases-parenthesized l = 10 * l.depth + 1
 
 abbrev pub decreases-prim : goal.decreases-prim
-decreases-prim l = 10 * l.depth + 2
+decreases-prim l = 10 * l.depth + 3
 
 abbrev pub decreases-term : goal.decreases-term
-decreases-term l = 10 * l.depth + 3
+decreases-term l = 10 * l.depth + 4
 
 abbrev pub decreases-sum : goal.decreases-sum
-decreases-sum l = 10 * l.depth + 4
+decreases-sum l = 10 * l.depth + 5
 
 abbrev pub decreases-cmp : goal.decreases-cmp
-decreases-cmp l = 10 * l.depth + 5
+decreases-cmp l = 10 * l.depth + 6
 
 abbrev pub decreases-not_expr : goal.decreases-not_expr
-decreases-not_expr l = 10 * l.depth + 6
+decreases-not_expr l = 10 * l.depth + 7
 
 abbrev pub decreases-and_expr : goal.decreases-and_expr
-decreases-and_expr l = 10 * l.depth + 7
+decreases-and_expr l = 10 * l.depth + 8
 
 abbrev pub decreases-or_expr : goal.decreases-or_expr
-decreases-or_expr l = 10 * l.depth + 8
+decreases-or_expr l = 10 * l.depth + 9
 
 abbrev pub invariant-or_expr-loop-turn : goal.invariant-or_expr-loop-turn
 invariant-or_expr-loop-turn l = read_or (expr_at l.depth) l.fn.self ≡ chain_from or_operator (read_and (expr_at l.depth)) (l._turn-end - l._turn) l.left l.self

@@ -4,7 +4,7 @@ use Rattle.castor_base.specs.Files.{Files}
 use Rattle.castor_parse.specs.declared.query.ParseError.{ParseError}
 use Rattle.castor_parse.specs.declared.query.ParseError.TheVariants as parse
 use Rattle.castor_tokens.specs.declared.token.Token.{Token}
-use Rattle.castor_parse.specs.declared.tree.File.{File}
+use Rattle.castor_tree.specs.declared.tree.File.{File}
 use Rattle.castor_parse.specs.Grammar.{IsFile}
 use Rattle.castor_parse.specs.Lexemes.{lexemes}
 use Rattle.castor_parse.specs.Limits.{are_within_limits}

@@ -2,7 +2,7 @@
 use Rattle.std.specs.Prelude.{◌≡◌, ◌⊎◌, ℕ, List, Result, Ok, Err}
 use Rattle.castor_parse.specs.declared.query.ParseError.{ParseError}
 use Rattle.castor_parse.specs.declared.query.ParseError.TheVariants as parse
-use Rattle.castor_parse.specs.declared.tree.File.{File}
+use Rattle.castor_tree.specs.declared.tree.File.{File}
 use Rattle.castor_parse.specs.Parsed.{IsParsed, IsRefused}
 use Rattle.castor_schema.specs.declared.checked.Checked.{Checked}
 use Rattle.castor_names.specs.declared.error.SchemaError.{SchemaError}

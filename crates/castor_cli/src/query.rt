@@ -3,7 +3,7 @@
 ghost use Rattle.std.specs.Prelude.{◌≡◌, IfErr, IfOk};
 ghost use Rattle.castor_cli.specs.Sound.{IsSound};
 ghost use Rattle.castor_cli.specs.Query.{ReadsText, ReadsTree, Unparsed, is_unchecked, is_unparsed};
-ghost use Rattle.castor_parse.specs.Formed.{IsFormed};
+ghost use Rattle.castor_tree.specs.Formed.{IsFormed};
 ghost use Rattle.castor_parse.specs.Parsed.{IsParsed};
 
 use crate::status::{QueryFault, Status};

@@ -4,8 +4,8 @@ use Rattle.std.specs.Option.{option_map_or}
 use Rattle.castor_val.specs.declared.value.Ty.{Ty}
 use Rattle.castor_alg.specs.declared.rel.Bound.TheVariants as bound
 use Rattle.castor_alg.specs.Typing.{same_type}
-use Rattle.castor_parse.specs.declared.tree.PBound.{PBound}
-use Rattle.castor_parse.specs.declared.tree.PBound.TheVariants.{Any, Incl, Excl}
+use Rattle.castor_tree.specs.declared.tree.PBound.{PBound}
+use Rattle.castor_tree.specs.declared.tree.PBound.TheVariants.{Any, Incl, Excl}
 use Rattle.castor_names.specs.Turns.{and_then}
 use Rattle.castor_names.specs.declared.declarations.Declarations.{Declarations}
 use Rattle.castor_names.specs.declared.error.SchemaError.{SchemaError}

@@ -7,10 +7,10 @@ use Rattle.castor_alg.specs.declared.expr.Expr.{Expr}
 use Rattle.castor_alg.specs.declared.expr.Expr as core
 use Rattle.castor_alg.specs.declared.expr.Op.{Op}
 use Rattle.castor_alg.specs.Typing.{choice_type, literal_type, negation_type, operator_type}
-use Rattle.castor_parse.specs.declared.tree.PCol.{PCol}
-use Rattle.castor_parse.specs.declared.tree.PCol.TheVariants.{Name, Dotted, Number}
-use Rattle.castor_parse.specs.declared.tree.PExpr.{PExpr, fold-PExpr}
-use Rattle.castor_parse.specs.declared.tree.PExpr.TheOpen.{PExpr-F, Col, ScopeAt, Param, Lit, Bin, Not, If}
+use Rattle.castor_tree.specs.declared.tree.PCol.{PCol}
+use Rattle.castor_tree.specs.declared.tree.PCol.TheVariants.{Name, Dotted, Number}
+use Rattle.castor_tree.specs.declared.tree.PExpr.{PExpr, fold-PExpr}
+use Rattle.castor_tree.specs.declared.tree.PExpr.TheOpen.{PExpr-F, Col, ScopeAt, Param, Lit, Bin, Not, If}
 use Rattle.castor_names.specs.Names.{by_name, by_qualifier, column_number}
 use Rattle.castor_names.specs.Scopes.{innermost}
 use Rattle.castor_names.specs.Turns.{and_then}

@@ -6,10 +6,10 @@ use Rattle.castor_alg.specs.declared.rel.Agg.{Agg}
 use Rattle.castor_alg.specs.declared.rel.Agg.TheVariants.{Count, Sum, Min, Max}
 use Rattle.castor_alg.specs.declared.rel.Key.{Key}
 use Rattle.castor_alg.specs.Typing.{same_type}
-use Rattle.castor_parse.specs.declared.tree.PAgg.{PAgg}
-use Rattle.castor_parse.specs.declared.tree.PAgg.TheVariants as named
-use Rattle.castor_parse.specs.declared.tree.PCol.{PCol}
-use Rattle.castor_parse.specs.declared.tree.Word.{Word}
+use Rattle.castor_tree.specs.declared.tree.PAgg.{PAgg}
+use Rattle.castor_tree.specs.declared.tree.PAgg.TheVariants as named
+use Rattle.castor_tree.specs.declared.tree.PCol.{PCol}
+use Rattle.castor_tree.specs.declared.tree.Word.{Word}
 use Rattle.castor_names.specs.Names.{called_or_numbered, column_number, the_column}
 use Rattle.castor_names.specs.Turns.{and_then, in_order}
 use Rattle.castor_names.specs.declared.column.NamedColumn.{NamedColumn}

@@ -1,7 +1,7 @@
 -- The keys of `hash`.
 use Rattle.std.specs.Prelude.{ℕ, ◌+◌, ◌++◌, ◌==◌, List, [], ◌∷◌, Result, Ok, Bool, ◌&&◌, nat_le}
 use Rattle.castor_val.specs.Limits.{most_hash_columns}
-use Rattle.castor_parse.specs.declared.tree.PExpr.{PExpr}
+use Rattle.castor_tree.specs.declared.tree.PExpr.{PExpr}
 use Rattle.castor_names.specs.Turns.{and_then, in_order}
 use Rattle.castor_names.specs.declared.declarations.Declarations.{Declarations}
 use Rattle.castor_names.specs.declared.error.SchemaError.{SchemaError}

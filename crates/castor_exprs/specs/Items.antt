@@ -4,8 +4,8 @@ use Rattle.std.specs.Option.{option_map_or}
 use Rattle.castor_val.specs.declared.value.Ty.{Ty}
 use Rattle.castor_alg.specs.declared.expr.Expr.{Expr, out-Expr}
 use Rattle.castor_alg.specs.declared.expr.Expr.TheOpen.{Expr-F, Col, Scope as ScopeColumn}
-use Rattle.castor_parse.specs.declared.tree.Item.{Item}
-use Rattle.castor_parse.specs.declared.tree.Word.{Word}
+use Rattle.castor_tree.specs.declared.tree.Item.{Item}
+use Rattle.castor_tree.specs.declared.tree.Word.{Word}
 use Rattle.castor_names.specs.Names.{column_called, column_numbered}
 use Rattle.castor_names.specs.Scopes.{scope_column}
 use Rattle.castor_names.specs.Turns.{and_then, in_order}

@@ -10,7 +10,7 @@ use crate::expression::expression;
 use crate::types::is_same_type;
 use castor_alg::Bound;
 use castor_names::{Declarations, SchemaError, Scopes};
-use castor_parse::PBound;
+use castor_tree::PBound;
 use castor_val::Ty;
 use std::alloc::Global;
 

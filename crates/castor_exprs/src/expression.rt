@@ -14,7 +14,7 @@ use castor_names::{
     Declarations, NamedColumn, SchemaError, Scope, Scopes, by_name, by_qualifier, column_number,
     innermost, is_same, number_of,
 };
-use castor_parse::{PCol, PExpr};
+use castor_tree::{PCol, PExpr};
 use castor_val::{Column, Text, Ty};
 use sqlite_items::{Boxed, at};
 use std::alloc::Global;

@@ -11,7 +11,7 @@ ghost use Rattle.castor_names.specs.declared.error.SchemaError.TheVariants as er
 use crate::types::is_same_type;
 use castor_alg::{Agg, Key};
 use castor_names::{NamedColumn, SchemaError, called_or_numbered, column_number};
-use castor_parse::{PAgg, PCol, Word};
+use castor_tree::{PAgg, PCol, Word};
 use castor_val::Ty;
 use sqlite_items::{Items, at};
 use std::alloc::Global;

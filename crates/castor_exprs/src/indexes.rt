@@ -9,7 +9,7 @@ ghost use Rattle.castor_names.specs.declared.error.SchemaError.TheVariants as er
 use crate::expression::expression;
 use castor_alg::Expr;
 use castor_names::{Declarations, SchemaError, Scopes};
-use castor_parse::PExpr;
+use castor_tree::PExpr;
 use castor_val::{MAX_HASH_COLUMNS, Ty};
 use sqlite_items::Items;
 use std::alloc::Global;

@@ -13,7 +13,7 @@ use castor_names::{
     Declarations, NamedColumn, SchemaError, Scopes, column_called, column_kept, column_numbered,
     scope_column,
 };
-use castor_parse::{Item, Word};
+use castor_tree::{Item, Word};
 use castor_val::{Memory, Ty};
 use sqlite_items::{Items, at};
 use std::alloc::Global;

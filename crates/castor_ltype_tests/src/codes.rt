@@ -1,6 +1,6 @@
 //! The codes of queries: their ranges, and the shape of the data that is held.
 
-ghost use Rattle.castor_parse.specs.Formed.{IsFormed};
+ghost use Rattle.castor_tree.specs.Formed.{IsFormed};
 
 use crate::printed::printed;
 use crate::queries::known_file;

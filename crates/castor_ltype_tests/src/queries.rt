@@ -1,7 +1,7 @@
 //! The queries of the tests.
 
 ghost use Rattle.std.specs.Prelude.{IfOk};
-ghost use Rattle.castor_parse.specs.Formed.{IsFormed};
+ghost use Rattle.castor_tree.specs.Formed.{IsFormed};
 
 use castor_parse::{File, parse};
 use std::alloc::{AllocError, Global};

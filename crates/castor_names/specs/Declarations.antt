@@ -5,9 +5,9 @@ use Rattle.std.specs.Str.{bytes_eq}
 use Rattle.castor_val.specs.Limits.{most_columns, most_params, most_tables}
 use Rattle.castor_val.specs.declared.column.Column.{Column}
 use Rattle.castor_val.specs.declared.value.Ty.{Ty}
-use Rattle.castor_parse.specs.declared.tree.Decl.{Decl}
-use Rattle.castor_parse.specs.declared.tree.Decl.TheVariants.{Table, Param}
-use Rattle.castor_parse.specs.declared.tree.Word.{Word}
+use Rattle.castor_tree.specs.declared.tree.Decl.{Decl}
+use Rattle.castor_tree.specs.declared.tree.Decl.TheVariants.{Table, Param}
+use Rattle.castor_tree.specs.declared.tree.Word.{Word}
 use Rattle.castor_names.specs.Turns.{and_then, in_order}
 use Rattle.castor_names.specs.declared.table.Declared.{Declared}
 use Rattle.castor_names.specs.declared.declarations.Declarations.{Declarations}

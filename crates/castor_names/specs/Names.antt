@@ -5,9 +5,9 @@ use Rattle.std.specs.Str.{bytes_eq}
 use Rattle.castor_val.specs.declared.column.Column.{Column}
 use Rattle.castor_val.specs.declared.value.Ty.{Ty}
 use Rattle.castor_alg.specs.declared.rel.Rel.{Table}
-use Rattle.castor_parse.specs.declared.tree.PCol.{PCol}
-use Rattle.castor_parse.specs.declared.tree.PCol.TheVariants.{Name, Dotted, Number}
-use Rattle.castor_parse.specs.declared.tree.Word.{Word}
+use Rattle.castor_tree.specs.declared.tree.PCol.{PCol}
+use Rattle.castor_tree.specs.declared.tree.PCol.TheVariants.{Name, Dotted, Number}
+use Rattle.castor_tree.specs.declared.tree.Word.{Word}
 use Rattle.castor_names.specs.declared.table.Declared.{Declared}
 use Rattle.castor_names.specs.declared.column.NamedColumn.{NamedColumn}
 use Rattle.castor_names.specs.declared.error.SchemaError.{SchemaError}

@@ -4,7 +4,7 @@ ghost use Rattle.std.specs.Prelude.{◌≡◌, ◌++◌, IfOk, None, Some, codes
 ghost use Rattle.castor_names.specs.Names.{called_or_numbered, column_called, column_numbered, columns_of_table, plain_columns};
 
 use crate::table::Declared;
-use castor_parse::Word;
+use castor_tree::Word;
 use castor_val::{Column, Memory, Text, Ty};
 use sqlite_items::Items;
 use std::alloc::Global;

@@ -8,7 +8,7 @@ ghost use Rattle.castor_names.specs.declared.error.SchemaError.TheVariants as er
 use crate::error::SchemaError;
 use crate::names::is_same;
 use crate::table::Declared;
-use castor_parse::{Decl, Word};
+use castor_tree::{Decl, Word};
 use castor_val::{Column, MAX_COLUMNS, MAX_PARAMS, MAX_TABLES, Text, Ty};
 use sqlite_items::Items;
 use std::alloc::Global;

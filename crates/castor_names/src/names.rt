@@ -9,7 +9,7 @@ ghost use Rattle.castor_names.specs.declared.error.SchemaError.TheVariants as er
 
 use crate::column::NamedColumn;
 use crate::error::SchemaError;
-use castor_parse::PCol;
+use castor_tree::PCol;
 use castor_val::{Memory, Text};
 
 /// A place in a list as a number. A list of 2^32 items is in no memory.

@@ -1,16 +1,16 @@
 -- Induction over relations of names, and what a fold makes of each operator.
 use Rattle.std.proofs.Common.{◌≡◌, ◌∙◌, Bool, List, Option, map, subst, ap, sym}
-use Rattle.castor_parse.specs.declared.tree.Item.{Item}
-use Rattle.castor_parse.specs.declared.tree.PAgg.{PAgg}
-use Rattle.castor_parse.specs.declared.tree.PBound.{PBound}
-use Rattle.castor_parse.specs.declared.tree.PCol.{PCol}
-use Rattle.castor_parse.specs.declared.tree.PExpr.{PExpr}
-use Rattle.castor_parse.specs.declared.tree.Word.{Word}
-use Rattle.castor_parse.specs.declared.tree.PRel.{PRel, roll-PRel, ind-PRel, fold-PRel, fold-roll-PRel}
-use Rattle.castor_parse.specs.declared.tree.PRel as R
-use Rattle.castor_parse.specs.declared.tree.PRel.TheFolds.{map-PRel}
-use Rattle.castor_parse.specs.declared.tree.PRel.TheVariants.{rolls-Table, rolls-Scalar, rolls-Cross, rolls-Concat, rolls-Select, rolls-Filter, rolls-Join, rolls-DepJoin, rolls-Group, rolls-Order, rolls-Dedup, rolls-List, rolls-Hash, rolls-Ord}
-use Rattle.castor_parse.specs.declared.tree.PRel.TheOpen as F
+use Rattle.castor_tree.specs.declared.tree.Item.{Item}
+use Rattle.castor_tree.specs.declared.tree.PAgg.{PAgg}
+use Rattle.castor_tree.specs.declared.tree.PBound.{PBound}
+use Rattle.castor_tree.specs.declared.tree.PCol.{PCol}
+use Rattle.castor_tree.specs.declared.tree.PExpr.{PExpr}
+use Rattle.castor_tree.specs.declared.tree.Word.{Word}
+use Rattle.castor_tree.specs.declared.tree.PRel.{PRel, roll-PRel, ind-PRel, fold-PRel, fold-roll-PRel}
+use Rattle.castor_tree.specs.declared.tree.PRel as R
+use Rattle.castor_tree.specs.declared.tree.PRel.TheFolds.{map-PRel}
+use Rattle.castor_tree.specs.declared.tree.PRel.TheVariants.{rolls-Table, rolls-Scalar, rolls-Cross, rolls-Concat, rolls-Select, rolls-Filter, rolls-Join, rolls-DepJoin, rolls-Group, rolls-Order, rolls-Dedup, rolls-List, rolls-Hash, rolls-Ord}
+use Rattle.castor_tree.specs.declared.tree.PRel.TheOpen as F
 
 -- a relation of which P is known
 abbrev pub With : (PRel → Type 0) → Type 0

@@ -11,12 +11,12 @@ use Rattle.castor_alg.specs.declared.rel.Key.{Key}
 use Rattle.castor_alg.specs.declared.rel.Rel.{Rel}
 use Rattle.castor_alg.specs.declared.rel.Rel as core
 use Rattle.castor_alg.specs.Typing.{same_type, same_types}
-use Rattle.castor_parse.specs.declared.tree.Item.{Item}
-use Rattle.castor_parse.specs.declared.tree.PAgg.{PAgg}
-use Rattle.castor_parse.specs.declared.tree.PBound.{PBound}
-use Rattle.castor_parse.specs.declared.tree.PCol.{PCol}
-use Rattle.castor_parse.specs.declared.tree.PExpr.{PExpr}
-use Rattle.castor_parse.specs.declared.tree.Word.{Word}
+use Rattle.castor_tree.specs.declared.tree.Item.{Item}
+use Rattle.castor_tree.specs.declared.tree.PAgg.{PAgg}
+use Rattle.castor_tree.specs.declared.tree.PBound.{PBound}
+use Rattle.castor_tree.specs.declared.tree.PCol.{PCol}
+use Rattle.castor_tree.specs.declared.tree.PExpr.{PExpr}
+use Rattle.castor_tree.specs.declared.tree.Word.{Word}
 use Rattle.castor_names.specs.Names.{columns_of_table, types_of}
 use Rattle.castor_names.specs.Turns.{and_then}
 use Rattle.castor_names.specs.declared.table.Declared.{Declared}

@@ -3,9 +3,9 @@
 use Rattle.std.specs.Prelude.{ℕ, ◌+◌, ◌++◌, List, [], ◌∷◌, Result, Ok}
 use Rattle.castor_alg.specs.declared.rel.Rel.{Rel}
 use Rattle.castor_alg.specs.declared.rel.Rel as core
-use Rattle.castor_parse.specs.declared.tree.PRel.{PRel, fold-PRel}
-use Rattle.castor_parse.specs.declared.tree.PRel.TheOpen as rel
-use Rattle.castor_parse.specs.declared.tree.PRel.TheOpen.{PRel-F}
+use Rattle.castor_tree.specs.declared.tree.PRel.{PRel, fold-PRel}
+use Rattle.castor_tree.specs.declared.tree.PRel.TheOpen as rel
+use Rattle.castor_tree.specs.declared.tree.PRel.TheOpen.{PRel-F}
 use Rattle.castor_names.specs.Turns.{and_then, in_order}
 use Rattle.castor_names.specs.declared.declarations.Declarations.{Declarations}
 use Rattle.castor_names.specs.declared.error.SchemaError.{SchemaError}

@@ -13,7 +13,7 @@ use castor_alg::{Expr, Rel, both, boxed};
 use castor_exprs::expression::expression;
 use castor_exprs::{Typed, is_same_type};
 use castor_names::{Declarations, SchemaError, Scopes};
-use castor_parse::PExpr;
+use castor_tree::PExpr;
 use castor_val::{Memory, Ty};
 use std::alloc::Global;
 

@@ -11,7 +11,7 @@ use crate::kept::beside;
 use castor_alg::{Agg, Rel, both, boxed};
 use castor_exprs::{Grouping, all_sum_ints, grouping_found};
 use castor_names::SchemaError;
-use castor_parse::{PAgg, PCol, Word};
+use castor_tree::{PAgg, PCol, Word};
 use std::alloc::Global;
 
 fn is_no_grouping(keys: &[u32], aggs: &[Agg]) -> bool

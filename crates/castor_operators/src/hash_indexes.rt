@@ -11,7 +11,7 @@ use crate::kept::beside;
 use castor_alg::Rel;
 use castor_exprs::{IndexKeys, have_types, index_keys, is_key_count};
 use castor_names::{Declarations, SchemaError, Scopes};
-use castor_parse::PExpr;
+use castor_tree::PExpr;
 use sqlite_items::Boxed;
 use std::alloc::Global;
 

@@ -11,7 +11,7 @@ use crate::kept::beside;
 use castor_alg::{Rel, both, boxed};
 use castor_exprs::{Output, Selection, item_output, items_selected};
 use castor_names::{Declarations, SchemaError, Scopes};
-use castor_parse::Item;
+use castor_tree::Item;
 use sqlite_items::Items;
 use std::alloc::Global;
 

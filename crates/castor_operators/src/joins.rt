@@ -13,7 +13,7 @@ use castor_alg::{Expr, Rel, both};
 use castor_exprs::expression::expression;
 use castor_exprs::{Typed, is_same_type};
 use castor_names::{Declarations, NamedColumn, SchemaError, Scopes};
-use castor_parse::PExpr;
+use castor_tree::PExpr;
 use castor_val::{Memory, Ty};
 use sqlite_items::Items;
 use std::alloc::Global;

@@ -11,7 +11,7 @@ use crate::kept::beside;
 use castor_alg::Rel;
 use castor_exprs::{TypedRange, is_bound_of, range_found};
 use castor_names::{Declarations, SchemaError, Scopes};
-use castor_parse::PBound;
+use castor_tree::PBound;
 use sqlite_items::Boxed;
 use std::alloc::Global;
 

@@ -11,7 +11,7 @@ use crate::kept::beside;
 use castor_alg::{Key, Rel};
 use castor_exprs::sorting_keys;
 use castor_names::SchemaError;
-use castor_parse::PCol;
+use castor_tree::PCol;
 use castor_val::{MAX_SORTING_KEYS, Memory};
 use sqlite_items::{Boxed, Items};
 use std::alloc::Global;

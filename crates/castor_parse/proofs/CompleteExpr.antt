@@ -9,16 +9,16 @@ use Rattle.castor_alg.specs.declared.expr.Op.TheVariants as op
 use Rattle.castor_tokens.specs.declared.token.Kind.{Kind}
 use Rattle.castor_tokens.specs.declared.token.Keyword.TheVariants as word
 use Rattle.castor_tokens.specs.declared.token.Symbol.TheVariants as sign
-use Rattle.castor_parse.specs.declared.tree.Word.{Word}
-use Rattle.castor_parse.specs.declared.tree.PCol.{PCol}
-use Rattle.castor_parse.specs.declared.tree.PCol.TheVariants as col
-use Rattle.castor_parse.specs.declared.tree.PExpr.{PExpr}
-use Rattle.castor_parse.specs.declared.tree.PExpr.TheVariants as e
+use Rattle.castor_tree.specs.declared.tree.Word.{Word}
+use Rattle.castor_tree.specs.declared.tree.PCol.{PCol}
+use Rattle.castor_tree.specs.declared.tree.PCol.TheVariants as col
+use Rattle.castor_tree.specs.declared.tree.PExpr.{PExpr}
+use Rattle.castor_tree.specs.declared.tree.PExpr.TheVariants as e
 use Rattle.castor_parse.specs.Lexemes.{Lexeme, name, int, text, keyword, symbol, Lexemes}
 use Rattle.castor_parse.specs.Limits.{opened, are_few_open}
 use Rattle.castor_parse.specs.Grammar as g
 use Rattle.castor_parse.specs.Grammar.{Level, IsCol, IsAlias, IsExpr, Compares}
-use Rattle.castor_parse.specs.Sizes.{expr_nodes}
+use Rattle.castor_tree.specs.Sizes.{expr_nodes}
 use Rattle.castor_parse.specs.Parser.{State, Outcome, Parser, and_then, at, spend, shown, node, kind_of, first_kind, is_symbol, is_keyword, empty_expr, expr_node, eat_symbol, eat_keyword, expect_symbol, read_name, read_int, read_text, chain_turn, chain_from, chain, or_operator, and_operator, comparison, sum_operator, term_operator, leading_nots, read_nots, negated, compared, int_limit, column_limit, int_literal, negative_literal, text_literal, truth_literal, read_param, numbered_col, named, read_if, parenthesized, read_prim, read_term, read_sum, read_cmp, read_not, read_and, read_or, expr_at, col_number, col_name, read_col, read_alias}
 use Rattle.castor_parse.proofs.NodeLaws.{expr_nodes-Col, expr_nodes-ScopeAt, expr_nodes-Param, expr_nodes-Lit, expr_nodes-Bin, expr_nodes-Not, expr_nodes-If}
 use Rattle.castor_parse.proofs.Readings.{spend_none, spends, had_some}

@@ -2,14 +2,14 @@
 use Rattle.std.proofs.Common.{◌≡◌, ℕ, zero, suc, ◌-◌, ◌≤◌, ◌<◌, true, List, [], ◌∷◌, ◌++◌, length, Some, refl, sym, ap, ◌∙◌, append_assoc, append-nil, arith}
 use Rattle.castor_val.specs.declared.value.Ty.{Ty}
 use Rattle.castor_tokens.specs.declared.token.Keyword.TheVariants as word
-use Rattle.castor_parse.specs.declared.tree.Word.{Word}
-use Rattle.castor_parse.specs.declared.tree.Decl.{Decl}
-use Rattle.castor_parse.specs.declared.tree.PRel.{PRel}
+use Rattle.castor_tree.specs.declared.tree.Word.{Word}
+use Rattle.castor_tree.specs.declared.tree.Decl.{Decl}
+use Rattle.castor_tree.specs.declared.tree.PRel.{PRel}
 use Rattle.castor_parse.specs.Lexemes.{Lexeme, name, keyword, Lexemes}
 use Rattle.castor_parse.specs.Limits.{are_few_open}
 use Rattle.castor_parse.specs.Grammar as g
 use Rattle.castor_parse.specs.Grammar.{Separated, IsType, IsColumn, IsDecl, AreDecls, IsRel, IsFile}
-use Rattle.castor_parse.specs.Sizes.{all_nodes, nodes}
+use Rattle.castor_tree.specs.Sizes.{all_nodes, nodes}
 use Rattle.castor_parse.specs.Parser.{Outcome, Parser, at, spend, first_kind, read_name, followed, expect_symbol, expect_keyword, read_type, read_column, read_table, read_param_decl, decls_by, decls_from, read_decls, read_end, read_file, nesting, separated}
 use Rattle.castor_parse.proofs.SoundFile.{none_spent}
 use Rattle.castor_parse.proofs.SoundLists.{no_nodes, all_nodes-none}

@@ -4,7 +4,7 @@ use Rattle.castor_tokens.specs.declared.token.Symbol.TheVariants as sign
 use Rattle.castor_parse.specs.Lexemes.{Lexemes}
 use Rattle.castor_parse.specs.Grammar as g
 use Rattle.castor_parse.specs.Grammar.{Separated, last, more, MaybeSeparated, no_items, some_items}
-use Rattle.castor_parse.specs.Sizes.{all_nodes}
+use Rattle.castor_tree.specs.Sizes.{all_nodes}
 use Rattle.castor_parse.specs.Parser.{Outcome, Parser, and_then, at, spend, first_kind, is_symbol, eat_symbol, expect_symbol, followed, separated_from, separated, bracketed, maybe_bracketed}
 use Rattle.castor_parse.proofs.Readings.{spend_none, spends, had_some}
 use Rattle.castor_parse.proofs.SoundLists.{all_nodes-last, all_nodes-cons}

@@ -3,18 +3,18 @@ use Rattle.std.proofs.Common.{◌≡◌, ℕ, ◌+◌, ◌≤◌, ◌<◌, true,
 use Rattle.std.specs.Prelude.{nat_le, map, All}
 use Rattle.std.specs.List.{list_all}
 use Rattle.castor_tokens.specs.declared.token.Token.{Token}
-use Rattle.castor_parse.specs.declared.tree.Decl.{Decl}
-use Rattle.castor_parse.specs.declared.tree.File.{File}
-use Rattle.castor_parse.specs.declared.tree.PRel.{PRel}
+use Rattle.castor_tree.specs.declared.tree.Decl.{Decl}
+use Rattle.castor_tree.specs.declared.tree.File.{File}
+use Rattle.castor_tree.specs.declared.tree.PRel.{PRel}
 use Rattle.castor_parse.specs.declared.query.ParseError.{ParseError}
 use Rattle.castor_parse.specs.declared.query.ParseError.TheVariants as refusal
 use Rattle.castor_tokens.specs.Tokens.{Bytes}
 use Rattle.castor_parse.specs.Lexemes.{Lexemes, lexemes}
 use Rattle.castor_tokens.specs.Cut.{Stands, AreInOrder, AreSpansInOrder}
-use Rattle.castor_parse.specs.Formed.{IsFormed}
+use Rattle.castor_tree.specs.Formed.{IsFormed}
 use Rattle.castor_parse.specs.Limits.{is_short, are_few_open, are_few_nots, are_within_limits}
 use Rattle.castor_parse.specs.Grammar.{IsFile}
-use Rattle.castor_parse.specs.Sizes.{nodes, depth}
+use Rattle.castor_tree.specs.Sizes.{nodes, depth}
 use Rattle.castor_parse.specs.Parser.{State, at, node_budget, spend, read_file}
 use Rattle.castor_parse.specs.Parsed.{AreTokens, IsSmallFile, IsLarge, IsRead, IsUnread, IsRefused, by_tree, by_grammar, HasOneTree}
 use Rattle.castor_tokens.proofs.TokenLaws.{spans_in_order}

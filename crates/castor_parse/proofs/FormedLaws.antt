@@ -13,25 +13,25 @@ use Rattle.castor_tokens.specs.declared.token.Kind.{Kind}
 use Rattle.castor_tokens.specs.declared.token.Kind.TheVariants as kind
 use Rattle.castor_tokens.specs.declared.token.Span.{Span}
 use Rattle.castor_tokens.specs.declared.token.Token.{Token}
-use Rattle.castor_parse.specs.declared.tree.Word.{Word}
-use Rattle.castor_parse.specs.declared.tree.Decl.{Decl}
-use Rattle.castor_parse.specs.declared.tree.PCol.{PCol}
-use Rattle.castor_parse.specs.declared.tree.PAgg.{PAgg}
-use Rattle.castor_parse.specs.declared.tree.PBound.{PBound}
-use Rattle.castor_parse.specs.declared.tree.Item.{Item}
-use Rattle.castor_parse.specs.declared.tree.PExpr.{PExpr, fold-roll-PExpr}
-use Rattle.castor_parse.specs.declared.tree.PExpr.TheVariants as e
-use Rattle.castor_parse.specs.declared.tree.PExpr.TheOpen as E
-use Rattle.castor_parse.specs.declared.tree.PRel.{PRel, fold-roll-PRel}
-use Rattle.castor_parse.specs.declared.tree.PRel.TheVariants as r
-use Rattle.castor_parse.specs.declared.tree.PRel.TheOpen as R
+use Rattle.castor_tree.specs.declared.tree.Word.{Word}
+use Rattle.castor_tree.specs.declared.tree.Decl.{Decl}
+use Rattle.castor_tree.specs.declared.tree.PCol.{PCol}
+use Rattle.castor_tree.specs.declared.tree.PAgg.{PAgg}
+use Rattle.castor_tree.specs.declared.tree.PBound.{PBound}
+use Rattle.castor_tree.specs.declared.tree.Item.{Item}
+use Rattle.castor_tree.specs.declared.tree.PExpr.{PExpr, fold-roll-PExpr}
+use Rattle.castor_tree.specs.declared.tree.PExpr.TheVariants as e
+use Rattle.castor_tree.specs.declared.tree.PExpr.TheOpen as E
+use Rattle.castor_tree.specs.declared.tree.PRel.{PRel, fold-roll-PRel}
+use Rattle.castor_tree.specs.declared.tree.PRel.TheVariants as r
+use Rattle.castor_tree.specs.declared.tree.PRel.TheOpen as R
 use Rattle.castor_tokens.specs.Tokens.{Bytes}
 use Rattle.castor_tokens.specs.Cut.{StandsAt, Stands}
 use Rattle.castor_parse.specs.Lexemes.{Lexeme, name, int, text, keyword, symbol, Lexemes, lexeme_of, lexemes}
 use Rattle.castor_parse.specs.Limits.{is_short}
 use Rattle.castor_parse.specs.Grammar as g
 use Rattle.castor_parse.specs.Grammar.{Level, Separated, MaybeSeparated, IsCol, IsAlias, IsExpr, IsItem, IsAggregate, IsAgg, IsKey, IsLower, IsUpper, IsRel, AreRels, IsType, IsColumn, IsDecl, AreDecls, IsFile}
-use Rattle.castor_parse.specs.Formed.{is_word, is_alias, is_col, is_literal, expr_formed_step, is_expr_formed, is_item_formed, is_aggregate_formed, is_agg_formed, is_key_formed, is_bound_formed, has_some, are_true, formed_step, is_formed, is_column_formed, is_decl_formed}
+use Rattle.castor_tree.specs.Formed.{is_word, is_alias, is_col, is_literal, expr_formed_step, is_expr_formed, is_item_formed, is_aggregate_formed, is_agg_formed, is_key_formed, is_bound_formed, has_some, are_true, formed_step, is_formed, is_column_formed, is_decl_formed}
 use Rattle.castor_parse.proofs.Past.{and_first, and_second}
 
 formed-Col : (c : PCol) → is_expr_formed (e.Col c) ≡ is_col c

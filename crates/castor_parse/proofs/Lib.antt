@@ -2,7 +2,6 @@ pub mod CompleteExpr
 pub mod CompleteFile
 pub mod CompleteLists
 pub mod CompleteRel
-pub mod Depths
 pub mod FileLaws
 pub mod FormedLaws
 pub mod NodeLaws

@@ -3,18 +3,18 @@ use Rattle.std.proofs.Common.{◌≡◌, ℕ, ◌+◌, Bool, List, Option, sym, 
 use Rattle.castor_val.specs.declared.value.Ty.{Ty}
 use Rattle.castor_val.specs.declared.value.Value.{Value}
 use Rattle.castor_alg.specs.declared.expr.Op.{Op}
-use Rattle.castor_parse.specs.declared.tree.Word.{Word}
-use Rattle.castor_parse.specs.declared.tree.PCol.{PCol}
-use Rattle.castor_parse.specs.declared.tree.PAgg.{PAgg}
-use Rattle.castor_parse.specs.declared.tree.PBound.{PBound}
-use Rattle.castor_parse.specs.declared.tree.Item.{Item}
-use Rattle.castor_parse.specs.declared.tree.PExpr.{PExpr, fold-roll-PExpr}
-use Rattle.castor_parse.specs.declared.tree.PExpr.TheVariants as e
-use Rattle.castor_parse.specs.declared.tree.PExpr.TheOpen as E
-use Rattle.castor_parse.specs.declared.tree.PRel.{PRel, fold-roll-PRel}
-use Rattle.castor_parse.specs.declared.tree.PRel.TheVariants as r
-use Rattle.castor_parse.specs.declared.tree.PRel.TheOpen as R
-use Rattle.castor_parse.specs.Sizes.{expr_nodes, expr_nodes_step, item_nodes, bound_nodes, all_nodes, nodes, nodes_step}
+use Rattle.castor_tree.specs.declared.tree.Word.{Word}
+use Rattle.castor_tree.specs.declared.tree.PCol.{PCol}
+use Rattle.castor_tree.specs.declared.tree.PAgg.{PAgg}
+use Rattle.castor_tree.specs.declared.tree.PBound.{PBound}
+use Rattle.castor_tree.specs.declared.tree.Item.{Item}
+use Rattle.castor_tree.specs.declared.tree.PExpr.{PExpr, fold-roll-PExpr}
+use Rattle.castor_tree.specs.declared.tree.PExpr.TheVariants as e
+use Rattle.castor_tree.specs.declared.tree.PExpr.TheOpen as E
+use Rattle.castor_tree.specs.declared.tree.PRel.{PRel, fold-roll-PRel}
+use Rattle.castor_tree.specs.declared.tree.PRel.TheVariants as r
+use Rattle.castor_tree.specs.declared.tree.PRel.TheOpen as R
+use Rattle.castor_tree.specs.Sizes.{expr_nodes, expr_nodes_step, item_nodes, bound_nodes, all_nodes, nodes, nodes_step}
 
 pub expr_nodes-Col : (c : PCol) → expr_nodes (e.Col c) ≡ 1
 expr_nodes-Col c = ap expr_nodes (sym (e.rolls-Col c)) ∙ fold-roll-PExpr ℕ expr_nodes_step (E.Col c)

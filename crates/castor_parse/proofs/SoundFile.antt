@@ -3,13 +3,13 @@ use Rattle.std.proofs.Common.{◌≡◌, ℕ, zero, suc, ◌<◌, List, [], ◌�
 use Rattle.castor_val.specs.declared.value.Ty.TheVariants as ty
 use Rattle.castor_tokens.specs.declared.token.Keyword.TheVariants as word
 use Rattle.castor_tokens.specs.declared.token.Symbol.TheVariants as sign
-use Rattle.castor_parse.specs.declared.tree.Decl.{Decl}
-use Rattle.castor_parse.specs.declared.tree.Decl.TheVariants as decl
-use Rattle.castor_parse.specs.declared.tree.PRel.{PRel}
+use Rattle.castor_tree.specs.declared.tree.Decl.{Decl}
+use Rattle.castor_tree.specs.declared.tree.Decl.TheVariants as decl
+use Rattle.castor_tree.specs.declared.tree.PRel.{PRel}
 use Rattle.castor_parse.specs.Lexemes.{keyword, Lexemes}
 use Rattle.castor_parse.specs.Grammar as g
 use Rattle.castor_parse.specs.Grammar.{Separated, IsType, IsColumn, IsDecl, AreDecls, IsRel, IsFile}
-use Rattle.castor_parse.specs.Sizes.{all_nodes, nodes}
+use Rattle.castor_tree.specs.Sizes.{all_nodes, nodes}
 use Rattle.castor_parse.specs.Parser.{State, Parser, at, spend, first_kind, read_type, read_column, read_table, read_param_decl, decls_by, decls_from, read_decls, read_end, read_file, nesting}
 use Rattle.castor_parse.proofs.Outcomes.{Gives, gives_none, gives_some, step}
 use Rattle.castor_parse.proofs.Readings.{Plain, SoundPlain, expects_symbol, expects_keyword, reads_name}

@@ -6,7 +6,7 @@ use Rattle.castor_tokens.specs.declared.token.Symbol.TheVariants as sign
 use Rattle.castor_parse.specs.Lexemes.{Lexeme, symbol, Lexemes}
 use Rattle.castor_parse.specs.Grammar as g
 use Rattle.castor_parse.specs.Grammar.{Separated, last, more, MaybeSeparated, no_items, some_items}
-use Rattle.castor_parse.specs.Sizes.{all_nodes}
+use Rattle.castor_tree.specs.Sizes.{all_nodes}
 use Rattle.castor_parse.specs.Parser.{State, Parser, and_then, spend, followed, on_comma, separated_from, separated, bracketed, maybe_by, maybe_bracketed}
 use Rattle.castor_parse.proofs.Outcomes.{Gives, gives_some, weaker, step}
 use Rattle.castor_parse.proofs.Readings.{Steps, Ate, Read, SoundPlain, Sound, expects_symbol, eats_symbol, spend_none, spends, had_some}

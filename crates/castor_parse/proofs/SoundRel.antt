@@ -3,18 +3,18 @@ use Rattle.std.proofs.Common.{◌≡◌, ℕ, zero, suc, ◌+◌, ◌<◌, Bool,
 use Rattle.castor_tokens.specs.declared.token.Keyword.{Keyword}
 use Rattle.castor_tokens.specs.declared.token.Keyword.TheVariants as word
 use Rattle.castor_tokens.specs.declared.token.Symbol.TheVariants as sign
-use Rattle.castor_parse.specs.declared.tree.Word.{Word}
-use Rattle.castor_parse.specs.declared.tree.PCol.{PCol}
-use Rattle.castor_parse.specs.declared.tree.PExpr.{PExpr}
-use Rattle.castor_parse.specs.declared.tree.PAgg.{PAgg}
-use Rattle.castor_parse.specs.declared.tree.PAgg.TheVariants as agg
-use Rattle.castor_parse.specs.declared.tree.PBound.TheVariants as bound
-use Rattle.castor_parse.specs.declared.tree.PRel.{PRel}
-use Rattle.castor_parse.specs.declared.tree.PRel.TheVariants as r
+use Rattle.castor_tree.specs.declared.tree.Word.{Word}
+use Rattle.castor_tree.specs.declared.tree.PCol.{PCol}
+use Rattle.castor_tree.specs.declared.tree.PExpr.{PExpr}
+use Rattle.castor_tree.specs.declared.tree.PAgg.{PAgg}
+use Rattle.castor_tree.specs.declared.tree.PAgg.TheVariants as agg
+use Rattle.castor_tree.specs.declared.tree.PBound.TheVariants as bound
+use Rattle.castor_tree.specs.declared.tree.PRel.{PRel}
+use Rattle.castor_tree.specs.declared.tree.PRel.TheVariants as r
 use Rattle.castor_parse.specs.Lexemes.{name, int, text, keyword, symbol, Lexemes}
 use Rattle.castor_parse.specs.Grammar as g
 use Rattle.castor_parse.specs.Grammar.{Separated, last, more, MaybeSeparated, IsCol, IsAlias, IsExpr, IsItem, IsAggregate, IsAgg, IsKey, IsLower, IsUpper, IsRel, AreRels}
-use Rattle.castor_parse.specs.Sizes.{expr_nodes, item_nodes, bound_nodes, all_nodes, nodes}
+use Rattle.castor_tree.specs.Sizes.{expr_nodes, item_nodes, bound_nodes, all_nodes, nodes}
 use Rattle.castor_parse.specs.Parser.{State, Parser, and_then, at, spend, first_kind, empty_rel, rel_node, read_item, read_lower, read_upper, aggregated, read_count, read_aggregate, read_agg, falls_by, read_key, read_col, read_table_name, read_source, read_scalar, read_rels, read_select, read_filter, read_join, read_binder, read_hash, read_ordered, read_groupby, read_orderby, read_dedup, rel_by, begins_rel, behind_word, read_rel, rel_at, expr_at, separated}
 use Rattle.castor_parse.proofs.Outcomes.{Gives, gives_none, gives_some, weaker, step}
 use Rattle.castor_parse.proofs.NodeLaws as size

@@ -6,7 +6,7 @@ use Rattle.castor_tokens.specs.declared.token.Span.{Span}
 use Rattle.castor_tokens.specs.declared.token.Kind.{Kind}
 use Rattle.castor_tokens.specs.declared.token.Kind.TheVariants as kind
 use Rattle.castor_tokens.specs.declared.token.Token.{Token}
-use Rattle.castor_parse.specs.declared.tree.Word.{Word}
+use Rattle.castor_tree.specs.declared.tree.Word.{Word}
 use Rattle.castor_tokens.specs.Tokens.{Bytes, quote}
 
 pub data Lexeme : Type 0 where

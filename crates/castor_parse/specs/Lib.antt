@@ -1,8 +1,6 @@
-pub mod Formed
 pub mod Grammar
 pub mod Lexemes
 pub mod Limits
 pub mod Parsed
 pub mod Parser
 pub mod Place
-pub mod Sizes

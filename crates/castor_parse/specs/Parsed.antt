@@ -1,17 +1,17 @@
 -- What a query file is parsed to, and why a text isn't.
 use Rattle.std.specs.Prelude.{◌≡◌, ◌<◌, ◌≤◌, ℕ, true, false, List, map, length, Some, None, IsUtf8}
-use Rattle.castor_val.specs.Limits.{most_depth, most_query_nodes, most_source_bytes}
+use Rattle.castor_val.specs.Limits.{most_depth, most_source_bytes}
 use Rattle.castor_tokens.specs.declared.token.Token.{Token}
-use Rattle.castor_parse.specs.declared.tree.Decl.{Decl}
-use Rattle.castor_parse.specs.declared.tree.PRel.{PRel}
-use Rattle.castor_parse.specs.declared.tree.File.{File}
+use Rattle.castor_tree.specs.declared.tree.Decl.{Decl}
+use Rattle.castor_tree.specs.declared.tree.PRel.{PRel}
+use Rattle.castor_tree.specs.declared.tree.File.{File}
 use Rattle.castor_parse.specs.declared.query.ParseError.{ParseError}
 use Rattle.castor_parse.specs.declared.query.ParseError.TheVariants as refusal
 use Rattle.castor_tokens.specs.Tokens.{Bytes, tokens_of}
 use Rattle.castor_parse.specs.Lexemes.{lexemes}
 use Rattle.castor_parse.specs.Limits.{are_within_limits}
 use Rattle.castor_parse.specs.Grammar.{IsFile}
-use Rattle.castor_parse.specs.Sizes.{nodes, depth}
+use Rattle.castor_tree.specs.Sizes.{depth, IsSmall}
 
 -- a text that is cut into these tokens, all of them within the limits
 pub record AreTokens (text : Bytes) (ts : List Token) : Type 0 where
@@ -19,11 +19,6 @@ pub record AreTokens (text : Bytes) (ts : List Token) : Type 0 where
   pub utf8 : IsUtf8 text
   pub cut : tokens_of text ≡ Some ts
   pub within : are_within_limits (lexemes text ts) ≡ true
-
--- a tree that isn't too large: at most 4,096 nodes, and at most 64 deep
-pub record IsSmall (query : PRel) : Type 0 where
-  pub nodes : nodes query ≤ most_query_nodes
-  pub depth : depth query ≤ most_depth
 
 -- the file has the spans of the text's tokens, and the grammar derives its declarations and its query from them
 pub record IsParsed (text : Bytes) (file : File) : Type 0 where

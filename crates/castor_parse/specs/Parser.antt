@@ -19,20 +19,20 @@ use Rattle.castor_tokens.specs.declared.token.Kind.{Kind}
 use Rattle.castor_tokens.specs.declared.token.Kind.TheVariants as kind
 use Rattle.castor_parse.specs.declared.parser.Stop.{Stop}
 use Rattle.castor_parse.specs.declared.parser.Stop.TheVariants as stop
-use Rattle.castor_parse.specs.declared.tree.Word.{Word}
-use Rattle.castor_parse.specs.declared.tree.Decl.{Decl}
-use Rattle.castor_parse.specs.declared.tree.Decl.TheVariants as decl
-use Rattle.castor_parse.specs.declared.tree.PCol.{PCol}
-use Rattle.castor_parse.specs.declared.tree.PCol.TheVariants as col
-use Rattle.castor_parse.specs.declared.tree.PExpr.{PExpr}
-use Rattle.castor_parse.specs.declared.tree.PExpr.TheVariants as e
-use Rattle.castor_parse.specs.declared.tree.Item.{Item}
-use Rattle.castor_parse.specs.declared.tree.PAgg.{PAgg}
-use Rattle.castor_parse.specs.declared.tree.PAgg.TheVariants as agg
-use Rattle.castor_parse.specs.declared.tree.PBound.{PBound}
-use Rattle.castor_parse.specs.declared.tree.PBound.TheVariants as bound
-use Rattle.castor_parse.specs.declared.tree.PRel.{PRel}
-use Rattle.castor_parse.specs.declared.tree.PRel.TheVariants as r
+use Rattle.castor_tree.specs.declared.tree.Word.{Word}
+use Rattle.castor_tree.specs.declared.tree.Decl.{Decl}
+use Rattle.castor_tree.specs.declared.tree.Decl.TheVariants as decl
+use Rattle.castor_tree.specs.declared.tree.PCol.{PCol}
+use Rattle.castor_tree.specs.declared.tree.PCol.TheVariants as col
+use Rattle.castor_tree.specs.declared.tree.PExpr.{PExpr}
+use Rattle.castor_tree.specs.declared.tree.PExpr.TheVariants as e
+use Rattle.castor_tree.specs.declared.tree.Item.{Item}
+use Rattle.castor_tree.specs.declared.tree.PAgg.{PAgg}
+use Rattle.castor_tree.specs.declared.tree.PAgg.TheVariants as agg
+use Rattle.castor_tree.specs.declared.tree.PBound.{PBound}
+use Rattle.castor_tree.specs.declared.tree.PBound.TheVariants as bound
+use Rattle.castor_tree.specs.declared.tree.PRel.{PRel}
+use Rattle.castor_tree.specs.declared.tree.PRel.TheVariants as r
 use Rattle.castor_tokens.specs.Tokens.{Bytes}
 use Rattle.castor_parse.specs.Lexemes.{Lexeme, name, int, text, keyword, symbol, Lexemes}
 

@@ -6,9 +6,9 @@ ghost use Rattle.castor_parse.specs.Parser.{Reads};
 
 use crate::kept::{before, beside};
 use crate::parser::{Parser, Stop};
-use crate::tree::{PCol, PExpr, Word};
 use castor_alg::{Op, both, boxed};
 use castor_tokens::{Keyword, Kind, Symbol};
+use castor_tree::{PCol, PExpr, Word};
 use castor_val::{Ty, Value};
 use sqlite_items::Boxed;
 

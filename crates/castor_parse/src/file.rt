@@ -7,8 +7,8 @@ ghost use Rattle.castor_parse.specs.Parser.{Reads};
 use crate::kept::{before, beside};
 use crate::parser::{Parser, Stop};
 use crate::rel::{only, separated};
-use crate::tree::{Decl, PRel, Word};
 use castor_tokens::{Keyword, Kind, Symbol};
+use castor_tree::{Decl, PRel, Word};
 use castor_val::Ty;
 use sqlite_items::Items;
 

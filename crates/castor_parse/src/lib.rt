@@ -1,7 +1,6 @@
 //! Query files: their grammar, and how a text becomes a tree of names.
 #![tactic(auto)]
 
-mod depth;
 mod expr;
 mod file;
 mod kept;
@@ -9,7 +8,7 @@ mod limits;
 mod parser;
 pub mod query;
 mod rel;
-pub mod tree;
 
+pub use castor_tokens::Span;
+pub use castor_tree::{Decl, File, Item, PAgg, PBound, PCol, PExpr, PRel, Word};
 pub use query::{ParseError, parse};
-pub use tree::{Decl, File, Item, PAgg, PBound, PCol, PExpr, PRel, Word};

@@ -6,8 +6,8 @@ ghost use Rattle.castor_parse.specs.Lexemes.{lexemes, slice, inside, word_at, nu
 ghost use Rattle.castor_parse.specs.Parser as spec;
 ghost use Rattle.castor_parse.specs.Parser.{Reads};
 
-use crate::tree::Word;
 use castor_tokens::{Keyword, Kind, Span, Symbol, Token};
+use castor_tree::Word;
 use castor_val::{MAX_QUERY_NODES, Memory, Text};
 use std::alloc::{AllocError, AllocFailed, Global};
 use std::marker::Model;

@@ -2,16 +2,15 @@
 
 ghost use Rattle.std.specs.Prelude.{◌≡◌, map, length, true, All, IfOk, IfErr, IsUtf8};
 ghost use Rattle.castor_tokens.specs.Cut.{Stands, AreSpansInOrder};
-ghost use Rattle.castor_parse.specs.Formed.{IsFormed};
+ghost use Rattle.castor_tree.specs.Formed.{IsFormed};
 ghost use Rattle.castor_parse.specs.Lexemes.{lexemes};
 ghost use Rattle.castor_parse.specs.Limits.{are_within_limits};
 ghost use Rattle.castor_parse.specs.Parsed.{IsParsed, IsRefused, IsRead, IsUnread, IsSmallFile, IsLarge, HasOneTree};
 
-use crate::depth::is_within;
 use crate::limits::are_within_limits;
 use crate::parser::{Parser, Stop};
-use crate::tree::{Decl, File, PRel};
 use castor_tokens::{CutError, Span, Token, tokens};
+use castor_tree::{Decl, File, PRel, is_within};
 use castor_val::{MAX_DEPTH, MAX_SOURCE_BYTES};
 use sqlite_items::Items;
 use std::alloc::{AllocError, AllocFailed, Global};

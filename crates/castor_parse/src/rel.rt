@@ -6,8 +6,8 @@ ghost use Rattle.castor_parse.specs.Parser.{Reads};
 
 use crate::kept::{before, beside};
 use crate::parser::{Parser, Stop};
-use crate::tree::{Item, PAgg, PBound, PCol, PExpr, PRel, Word};
 use castor_tokens::{Keyword, Kind, Symbol};
+use castor_tree::{Item, PAgg, PBound, PCol, PExpr, PRel, Word};
 use sqlite_items::{Boxed, Items};
 use std::alloc::{AllocError, Global};
 

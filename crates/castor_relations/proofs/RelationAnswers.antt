@@ -2,8 +2,8 @@
 use Rattle.std.proofs.Common.{◌≡◌, ◌∙◌, ℕ, refl, sym, ap, List, [], map, Result, Ok, Err, inr, ◌⊎◌}
 use Rattle.castor_val.specs.Gives.{Gives}
 use Rattle.castor_alg.specs.declared.rel.Rel as core
-use Rattle.castor_parse.specs.declared.tree.PRel.{PRel}
-use Rattle.castor_parse.specs.declared.tree.PRel as R
+use Rattle.castor_tree.specs.declared.tree.PRel.{PRel}
+use Rattle.castor_tree.specs.declared.tree.PRel as R
 use Rattle.castor_names.specs.Turns.{and_then, in_order}
 use Rattle.castor_names.specs.declared.declarations.Declarations.{Declarations}
 use Rattle.castor_names.specs.declared.error.SchemaError.{SchemaError}

@@ -14,7 +14,7 @@ use castor_operators::{
     grouped, hashed_by, joined, limited, listed, order_by, ordered_by, scalar_found, selected,
     table_found,
 };
-use castor_parse::{PRel, Word};
+use castor_tree::{PRel, Word};
 use castor_val::{Memory, Text};
 use sqlite_items::Items;
 use std::alloc::Global;

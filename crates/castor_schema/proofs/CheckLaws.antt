@@ -6,9 +6,9 @@ use Rattle.std.proofs.lemmas.List.{length-map}
 use Rattle.castor_val.specs.declared.column.Column.{Column}
 use Rattle.castor_val.specs.declared.value.Ty.{Ty}
 use Rattle.castor_alg.specs.Typing.{are_columns, column_types, is_context, types_under}
-use Rattle.castor_parse.specs.declared.tree.File.{File}
-use Rattle.castor_parse.specs.Formed.{IsFormed}
-use Rattle.castor_parse.specs.Sizes as names
+use Rattle.castor_tree.specs.declared.tree.File.{File}
+use Rattle.castor_tree.specs.Formed.{IsFormed}
+use Rattle.castor_tree.specs.Sizes as names
 use Rattle.castor_names.proofs.Outcomes.{Through, left_true, ok_same, right_true, through}
 use Rattle.castor_names.specs.Declarations.{declared}
 use Rattle.castor_names.specs.Names.{plain_columns, types_of}

@@ -1,6 +1,6 @@
 -- What a query file means, or the first refusal.
 use Rattle.std.specs.Prelude.{[], Result, Ok}
-use Rattle.castor_parse.specs.declared.tree.File.{File}
+use Rattle.castor_tree.specs.declared.tree.File.{File}
 use Rattle.castor_names.specs.Declarations.{declared}
 use Rattle.castor_names.specs.Names.{plain_columns}
 use Rattle.castor_names.specs.Turns.{and_then}

@@ -8,8 +8,8 @@ use Rattle.castor_alg.specs.declared.context.Context.{Context}
 use Rattle.castor_alg.specs.FreeScopes.{is_free}
 use Rattle.castor_alg.specs.Sizes as algebra
 use Rattle.castor_alg.specs.Typing.{column_types}
-use Rattle.castor_parse.specs.declared.tree.PRel.{PRel}
-use Rattle.castor_parse.specs.Sizes as names
+use Rattle.castor_tree.specs.declared.tree.PRel.{PRel}
+use Rattle.castor_tree.specs.Sizes as names
 use Rattle.castor_names.specs.NameForms.{are_distinct, are_names, is_table, is_table_named}
 use Rattle.castor_names.specs.declared.table.Declared.{Declared}
 use Rattle.castor_schema.specs.declared.checked.Checked.{Checked}

@@ -2,7 +2,7 @@
 
 ghost use Rattle.std.specs.Prelude.{IfOk};
 ghost use Rattle.castor_val.specs.Gives.{Gives};
-ghost use Rattle.castor_parse.specs.Formed.{IsFormed};
+ghost use Rattle.castor_tree.specs.Formed.{IsFormed};
 ghost use Rattle.castor_schema.specs.Check.{checked};
 ghost use Rattle.castor_schema.specs.WellTyped.{AreNamed, AreWithinLimits, IsAsLarge, IsClosed, IsWellTyped};
 ghost use Rattle.castor_names.specs.declared.error.SchemaError.TheVariants as error;
@@ -10,8 +10,8 @@ ghost use Rattle.castor_names.specs.declared.error.SchemaError.TheVariants as er
 use crate::checked::Checked;
 use castor_names::declarations::declared;
 use castor_names::{SchemaError, Scopes, plain_columns};
-use castor_parse::File;
 use castor_relations::relation::relation;
+use castor_tree::File;
 use std::alloc::Global;
 
 fn checked(alloc: Global, file: &File) -> Result<Checked, SchemaError>

@@ -8,10 +8,10 @@ use Rattle.std.proofs.lemmas.List.{length-append, map_push}
 use Rattle.std.proofs.lemmas.List.Folds.{list_all-append}
 use Rattle.castor_val.specs.declared.column.Column.{Column}
 use Rattle.castor_val.specs.declared.value.Ty.{Ty}
-use Rattle.castor_parse.specs.declared.tree.Decl.{Decl}
-use Rattle.castor_parse.specs.declared.tree.Decl.TheVariants.{Table, Param}
-use Rattle.castor_parse.specs.declared.tree.Word.{Word}
-use Rattle.castor_parse.specs.Formed.{has_some, is_column_formed, is_decl_formed, is_word}
+use Rattle.castor_tree.specs.declared.tree.Decl.{Decl}
+use Rattle.castor_tree.specs.declared.tree.Decl.TheVariants.{Table, Param}
+use Rattle.castor_tree.specs.declared.tree.Word.{Word}
+use Rattle.castor_tree.specs.Formed.{has_some, is_column_formed, is_decl_formed, is_word}
 use Rattle.castor_names.proofs.Outcomes.{Through, left_true, ok_same, right_true, through, unless}
 use Rattle.castor_names.specs.Declarations.{columns_declared, declared, is_column_name, is_table_name, no_declarations, with_column, with_declaration, with_param, with_table, with_table_of}
 use Rattle.castor_names.specs.Turns.{and_then, in_order}

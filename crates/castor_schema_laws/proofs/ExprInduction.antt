@@ -3,13 +3,13 @@ use Rattle.std.proofs.Common.{◌≡◌, ◌∙◌, ℕ, subst, ap, sym}
 use Rattle.castor_val.specs.declared.value.Ty.{Ty}
 use Rattle.castor_val.specs.declared.value.Value.{Value}
 use Rattle.castor_alg.specs.declared.expr.Op.{Op}
-use Rattle.castor_parse.specs.declared.tree.PCol.{PCol}
-use Rattle.castor_parse.specs.declared.tree.Word.{Word}
-use Rattle.castor_parse.specs.declared.tree.PExpr.{PExpr, roll-PExpr, ind-PExpr, fold-PExpr, fold-roll-PExpr}
-use Rattle.castor_parse.specs.declared.tree.PExpr as E
-use Rattle.castor_parse.specs.declared.tree.PExpr.TheFolds.{map-PExpr}
-use Rattle.castor_parse.specs.declared.tree.PExpr.TheVariants.{rolls-Col, rolls-ScopeAt, rolls-Param, rolls-Lit, rolls-Bin, rolls-Not, rolls-If}
-use Rattle.castor_parse.specs.declared.tree.PExpr.TheOpen as F
+use Rattle.castor_tree.specs.declared.tree.PCol.{PCol}
+use Rattle.castor_tree.specs.declared.tree.Word.{Word}
+use Rattle.castor_tree.specs.declared.tree.PExpr.{PExpr, roll-PExpr, ind-PExpr, fold-PExpr, fold-roll-PExpr}
+use Rattle.castor_tree.specs.declared.tree.PExpr as E
+use Rattle.castor_tree.specs.declared.tree.PExpr.TheFolds.{map-PExpr}
+use Rattle.castor_tree.specs.declared.tree.PExpr.TheVariants.{rolls-Col, rolls-ScopeAt, rolls-Param, rolls-Lit, rolls-Bin, rolls-Not, rolls-If}
+use Rattle.castor_tree.specs.declared.tree.PExpr.TheOpen as F
 
 -- P of each expression follows from P of its parts
 pub record ExprCases (P : PExpr → Type 0) : Type 0 where

@@ -13,12 +13,12 @@ use Rattle.castor_alg.specs.declared.expr.Expr as core
 use Rattle.castor_alg.specs.Sizes.{expr_depth, expr_depth_step, expr_nodes, expr_nodes_step}
 use Rattle.castor_alg.specs.Typing.{ExprTyping, choice_type, expr_type_step, negation_type, operator_type, literal_type, scope_types, type_under}
 use Rattle.castor_alg.proofs.ExprInduction as algebra
-use Rattle.castor_parse.specs.declared.tree.PCol.{PCol}
-use Rattle.castor_parse.specs.declared.tree.PCol.TheVariants.{Name, Dotted, Number}
-use Rattle.castor_parse.specs.declared.tree.PExpr.{PExpr}
-use Rattle.castor_parse.specs.declared.tree.PExpr as E
-use Rattle.castor_parse.specs.declared.tree.Word.{Word}
-use Rattle.castor_parse.specs.Sizes as names
+use Rattle.castor_tree.specs.declared.tree.PCol.{PCol}
+use Rattle.castor_tree.specs.declared.tree.PCol.TheVariants.{Name, Dotted, Number}
+use Rattle.castor_tree.specs.declared.tree.PExpr.{PExpr}
+use Rattle.castor_tree.specs.declared.tree.PExpr as E
+use Rattle.castor_tree.specs.declared.tree.Word.{Word}
+use Rattle.castor_tree.specs.Sizes as names
 use Rattle.castor_names.proofs.Outcomes.{Through, ok_same, through}
 use Rattle.castor_names.specs.Names.{by_name, by_qualifier, column_number, types_of}
 use Rattle.castor_names.specs.Scopes.{innermost}

@@ -18,13 +18,13 @@ use Rattle.castor_alg.specs.declared.rel.Rel as core
 use Rattle.castor_alg.specs.Sizes.{depth, depth_step, nodes, nodes_step}
 use Rattle.castor_alg.specs.Typing.{RelTyping, aggregate_type, allowed, are_columns, are_hash_keys, are_sorting_keys, column_types_step, cross_types, each, extended, group_types, is_bound, is_of, is_range, same_type, same_types, type_under, types_of_each, types_under, with_both, within_limits}
 use Rattle.castor_alg.proofs.RelInduction as algebra
-use Rattle.castor_parse.specs.declared.tree.Item.{Item}
-use Rattle.castor_parse.specs.declared.tree.PAgg.{PAgg}
-use Rattle.castor_parse.specs.declared.tree.PBound.{PBound}
-use Rattle.castor_parse.specs.declared.tree.PCol.{PCol}
-use Rattle.castor_parse.specs.declared.tree.PExpr.{PExpr}
-use Rattle.castor_parse.specs.declared.tree.Word.{Word}
-use Rattle.castor_parse.specs.Sizes as names
+use Rattle.castor_tree.specs.declared.tree.Item.{Item}
+use Rattle.castor_tree.specs.declared.tree.PAgg.{PAgg}
+use Rattle.castor_tree.specs.declared.tree.PBound.{PBound}
+use Rattle.castor_tree.specs.declared.tree.PCol.{PCol}
+use Rattle.castor_tree.specs.declared.tree.PExpr.{PExpr}
+use Rattle.castor_tree.specs.declared.tree.Word.{Word}
+use Rattle.castor_tree.specs.Sizes as names
 use Rattle.castor_names.proofs.Outcomes.{Through, found_as, left_true, ok_same, right_true, some_from_ok, through, unless, where_true}
 use Rattle.castor_names.specs.Names.{columns_of_table, types_of}
 use Rattle.castor_names.specs.Turns.{and_then, in_order}

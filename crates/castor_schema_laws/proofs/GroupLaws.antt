@@ -14,11 +14,11 @@ use Rattle.castor_alg.specs.declared.rel.Agg.{Agg}
 use Rattle.castor_alg.specs.declared.rel.Agg.TheVariants.{Count, Sum, Min, Max}
 use Rattle.castor_alg.specs.declared.rel.Key.{Key}
 use Rattle.castor_alg.specs.Typing.{aggregate_type, allowed, each, is_of, same_type, with_both}
-use Rattle.castor_parse.specs.declared.tree.PAgg.{PAgg}
-use Rattle.castor_parse.specs.declared.tree.PAgg.TheVariants as named
-use Rattle.castor_parse.specs.declared.tree.PCol.{PCol}
-use Rattle.castor_parse.specs.declared.tree.PCol.TheVariants.{Name, Dotted, Number}
-use Rattle.castor_parse.specs.declared.tree.Word.{Word}
+use Rattle.castor_tree.specs.declared.tree.PAgg.{PAgg}
+use Rattle.castor_tree.specs.declared.tree.PAgg.TheVariants as named
+use Rattle.castor_tree.specs.declared.tree.PCol.{PCol}
+use Rattle.castor_tree.specs.declared.tree.PCol.TheVariants.{Name, Dotted, Number}
+use Rattle.castor_tree.specs.declared.tree.Word.{Word}
 use Rattle.castor_names.proofs.Outcomes.{Through, left_true, ok_same, right_true, some_from_ok, through, unless, where_true}
 use Rattle.castor_names.specs.Names.{by_name, by_number, by_qualifier, called_or_numbered, column_number, has_both, has_name, none_of_both, the_column, the_one, types_of}
 use Rattle.castor_names.specs.Turns.{and_then, in_order}

@@ -10,9 +10,9 @@ use Rattle.std.proofs.lemmas.Bool.{le-leb, lt-ltb}
 use Rattle.std.proofs.lemmas.Fmt.{digits_decimal, length-decimal-le}
 use Rattle.std.proofs.lemmas.Str.Parse.{IsNumeralModel, numerals_by_value, tells_all_ascii_digits}
 use Rattle.castor_val.specs.declared.value.Ty.{Ty}
-use Rattle.castor_parse.specs.declared.tree.Word.{Word}
+use Rattle.castor_tree.specs.declared.tree.Word.{Word}
 use Rattle.castor_tokens.specs.Tokens.{is_name, keyword_of}
-use Rattle.castor_parse.specs.Formed.{is_alias, is_word}
+use Rattle.castor_tree.specs.Formed.{is_alias, is_word}
 use Rattle.castor_names.proofs.Outcomes.{left_true, right_true}
 use Rattle.castor_names.specs.Names.{called_or_numbered, column_numbered}
 use Rattle.castor_names.specs.NameForms.{begins_name, continues_name, has_name_form}

@@ -8,11 +8,11 @@ use Rattle.std.proofs.lemmas.List.Folds.{list_all-append}
 use Rattle.castor_val.specs.declared.value.Ty.{Ty}
 use Rattle.castor_alg.specs.declared.expr.Expr.{Expr, out-Expr}
 use Rattle.castor_alg.specs.declared.expr.Expr.TheOpen.{Expr-F, Col, Scope as ScopeColumn, Param, Lit, Bin, Not, If}
-use Rattle.castor_parse.specs.declared.tree.Item.{Item}
-use Rattle.castor_parse.specs.declared.tree.PAgg.{PAgg}
-use Rattle.castor_parse.specs.declared.tree.PCol.{PCol}
-use Rattle.castor_parse.specs.declared.tree.Word.{Word}
-use Rattle.castor_parse.specs.Formed.{is_agg_formed, is_aggregate_formed, is_alias, is_expr_formed, is_item_formed}
+use Rattle.castor_tree.specs.declared.tree.Item.{Item}
+use Rattle.castor_tree.specs.declared.tree.PAgg.{PAgg}
+use Rattle.castor_tree.specs.declared.tree.PCol.{PCol}
+use Rattle.castor_tree.specs.declared.tree.Word.{Word}
+use Rattle.castor_tree.specs.Formed.{is_agg_formed, is_aggregate_formed, is_alias, is_expr_formed, is_item_formed}
 use Rattle.castor_names.proofs.Outcomes.{Through, left_true, ok_same, right_true, some_from_ok, through}
 use Rattle.castor_names.specs.Names.{called_or_numbered, column_called, column_number, column_numbered, the_column}
 use Rattle.castor_names.specs.Scopes.{scope_column}

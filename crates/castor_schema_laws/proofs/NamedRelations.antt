@@ -12,17 +12,17 @@ use Rattle.castor_alg.specs.declared.rel.Key.{Key}
 use Rattle.castor_alg.specs.declared.rel.Rel.{Rel}
 use Rattle.castor_alg.specs.declared.rel.Rel as core
 use Rattle.castor_alg.specs.Typing.{same_type, same_types}
-use Rattle.castor_parse.specs.declared.tree.Decl.{Decl}
-use Rattle.castor_parse.specs.declared.tree.Decl.TheVariants.{Table, Param}
-use Rattle.castor_parse.specs.declared.tree.Item.{Item}
-use Rattle.castor_parse.specs.declared.tree.PAgg.{PAgg}
-use Rattle.castor_parse.specs.declared.tree.PBound.{PBound}
-use Rattle.castor_parse.specs.declared.tree.PCol.{PCol}
-use Rattle.castor_parse.specs.declared.tree.PExpr.{PExpr}
-use Rattle.castor_parse.specs.declared.tree.PRel.{PRel}
-use Rattle.castor_parse.specs.declared.tree.PRel as R
-use Rattle.castor_parse.specs.declared.tree.Word.{Word}
-use Rattle.castor_parse.specs.Formed.{are_true, formed_step, has_some, is_agg_formed, is_bound_formed, is_col, is_column_formed, is_decl_formed, is_expr_formed, is_formed, is_item_formed, is_key_formed, is_word}
+use Rattle.castor_tree.specs.declared.tree.Decl.{Decl}
+use Rattle.castor_tree.specs.declared.tree.Decl.TheVariants.{Table, Param}
+use Rattle.castor_tree.specs.declared.tree.Item.{Item}
+use Rattle.castor_tree.specs.declared.tree.PAgg.{PAgg}
+use Rattle.castor_tree.specs.declared.tree.PBound.{PBound}
+use Rattle.castor_tree.specs.declared.tree.PCol.{PCol}
+use Rattle.castor_tree.specs.declared.tree.PExpr.{PExpr}
+use Rattle.castor_tree.specs.declared.tree.PRel.{PRel}
+use Rattle.castor_tree.specs.declared.tree.PRel as R
+use Rattle.castor_tree.specs.declared.tree.Word.{Word}
+use Rattle.castor_tree.specs.Formed.{are_true, formed_step, has_some, is_agg_formed, is_bound_formed, is_col, is_column_formed, is_decl_formed, is_expr_formed, is_formed, is_item_formed, is_key_formed, is_word}
 use Rattle.castor_names.proofs.Outcomes.{Through, found_as, left_true, ok_same, right_true, through, unless, where_true}
 use Rattle.castor_names.specs.Declarations.{columns_declared, declared, is_column_name, is_table_name, no_declarations, with_column, with_declaration, with_param, with_table, with_table_of}
 use Rattle.castor_names.specs.Names.{columns_of_table, plain_columns, types_of}

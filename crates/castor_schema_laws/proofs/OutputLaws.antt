@@ -10,12 +10,12 @@ use Rattle.castor_alg.specs.declared.rel.Bound.{Bound}
 use Rattle.castor_alg.specs.declared.rel.Bound.TheVariants as core
 use Rattle.castor_alg.specs.Sizes.{bound_depth, bound_nodes}
 use Rattle.castor_alg.specs.Typing.{is_bound, is_of, same_type}
-use Rattle.castor_parse.specs.declared.tree.Item.{Item}
-use Rattle.castor_parse.specs.declared.tree.PBound.{PBound}
-use Rattle.castor_parse.specs.declared.tree.PBound.TheVariants.{Any, Incl, Excl}
-use Rattle.castor_parse.specs.declared.tree.PExpr.{PExpr}
-use Rattle.castor_parse.specs.declared.tree.Word.{Word}
-use Rattle.castor_parse.specs.Sizes as names
+use Rattle.castor_tree.specs.declared.tree.Item.{Item}
+use Rattle.castor_tree.specs.declared.tree.PBound.{PBound}
+use Rattle.castor_tree.specs.declared.tree.PBound.TheVariants.{Any, Incl, Excl}
+use Rattle.castor_tree.specs.declared.tree.PExpr.{PExpr}
+use Rattle.castor_tree.specs.declared.tree.Word.{Word}
+use Rattle.castor_tree.specs.Sizes as names
 use Rattle.castor_names.proofs.Outcomes.{Through, ok_same, through}
 use Rattle.castor_names.specs.Names.{column_called, column_numbered, types_of}
 use Rattle.castor_names.specs.Scopes.{scope_column}

@@ -16,17 +16,17 @@ use Rattle.castor_alg.specs.declared.rel.Rel as core
 use Rattle.castor_alg.specs.Sizes.{depth, depth_step, nodes, nodes_step}
 use Rattle.castor_alg.specs.Typing.{RelTyping, allowed, are_columns, column_types_step, common_types, cross_types, each, same_type, same_types, types_under, within_limits}
 use Rattle.castor_alg.proofs.RelInduction as algebra
-use Rattle.castor_parse.specs.declared.tree.Item.{Item}
-use Rattle.castor_parse.specs.declared.tree.PAgg.{PAgg}
-use Rattle.castor_parse.specs.declared.tree.PBound.{PBound}
-use Rattle.castor_parse.specs.declared.tree.PCol.{PCol}
-use Rattle.castor_parse.specs.declared.tree.PExpr.{PExpr}
-use Rattle.castor_parse.specs.declared.tree.PRel.{PRel}
-use Rattle.castor_parse.specs.declared.tree.PRel as R
-use Rattle.castor_parse.specs.declared.tree.PRel.TheOpen as F
-use Rattle.castor_parse.specs.declared.tree.Word.{Word}
-use Rattle.castor_parse.specs.Formed.{are_true, formed_step, has_some, is_agg_formed, is_bound_formed, is_col, is_expr_formed, is_formed, is_item_formed, is_key_formed, is_word}
-use Rattle.castor_parse.specs.Sizes as names
+use Rattle.castor_tree.specs.declared.tree.Item.{Item}
+use Rattle.castor_tree.specs.declared.tree.PAgg.{PAgg}
+use Rattle.castor_tree.specs.declared.tree.PBound.{PBound}
+use Rattle.castor_tree.specs.declared.tree.PCol.{PCol}
+use Rattle.castor_tree.specs.declared.tree.PExpr.{PExpr}
+use Rattle.castor_tree.specs.declared.tree.PRel.{PRel}
+use Rattle.castor_tree.specs.declared.tree.PRel as R
+use Rattle.castor_tree.specs.declared.tree.PRel.TheOpen as F
+use Rattle.castor_tree.specs.declared.tree.Word.{Word}
+use Rattle.castor_tree.specs.Formed.{are_true, formed_step, has_some, is_agg_formed, is_bound_formed, is_col, is_expr_formed, is_formed, is_item_formed, is_key_formed, is_word}
+use Rattle.castor_tree.specs.Sizes as names
 use Rattle.castor_names.proofs.Outcomes.{Through, left_true, ok_same, right_true, through, unless}
 use Rattle.castor_names.specs.Names.{types_of}
 use Rattle.castor_names.specs.Turns.{and_then, in_order}

@@ -1,6 +1,6 @@
 //! What is checked in the tests.
 
-ghost use Rattle.castor_parse.specs.Formed.{IsFormed};
+ghost use Rattle.castor_tree.specs.Formed.{IsFormed};
 
 use castor_parse::{File, ParseError, parse};
 use castor_schema::{SchemaError, check};

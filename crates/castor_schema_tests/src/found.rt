@@ -1,7 +1,7 @@
 //! What accepted files mean: their declarations, their columns and their queries of numbers.
 
 ghost use Rattle.std.specs.Prelude.{IfOk};
-ghost use Rattle.castor_parse.specs.Formed.{IsFormed};
+ghost use Rattle.castor_tree.specs.Formed.{IsFormed};
 
 use crate::checks::{KNOWN, over_known};
 use castor_alg::{Agg, Bound, Expr, Key, Op, Rel};

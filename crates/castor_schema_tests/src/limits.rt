@@ -1,7 +1,7 @@
 //! The limits, at their edges.
 
 ghost use Rattle.std.specs.Prelude.{◌≡◌, ◌++◌, [], ◌∷◌, IfOk};
-ghost use Rattle.castor_parse.specs.Formed.{IsFormed};
+ghost use Rattle.castor_tree.specs.Formed.{IsFormed};
 
 use crate::checks::{refusal, refusal_of};
 use castor_parse::{File, PCol, PRel, parse};

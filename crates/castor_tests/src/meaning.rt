@@ -1,6 +1,6 @@
 //! `answer` and `ask` against a plain evaluator of the query and a plain reader of its image, over generated queries.
 
-ghost use Rattle.castor_parse.specs.Formed.{IsFormed};
+ghost use Rattle.castor_tree.specs.Formed.{IsFormed};
 
 use crate::plain_replies::{push_record, push_reply};
 use crate::queries::{OPERATORS, Operator, query};

@@ -2,7 +2,7 @@ use Rattle.std.proofs.Common.{◌≡◌, Some, None, subst, arith}
 use Rattle.std.proofs.lemmas.Result.{IfOk-weaker, IfErr-weaker}
 use Rattle.castor_parse.specs.Lexemes.{lexemes}
 use Rattle.castor_parse.specs.Parser.{at, node_budget, read_file}
-use Rattle.castor_parse.specs.Formed.{IsFormed}
+use Rattle.castor_tree.specs.Formed.{IsFormed}
 use Rattle.castor_parse.specs.Parsed.{IsSmallFile, IsLarge, IsRead, IsUnread}
 use Rattle.castor_parse.proofs.FileLaws.{unread_is, read_file_is, read_formed, unread_large}
 use Rattle.castor_parse.proofs.query.file.Goals as goal

@@ -1,14 +1,15 @@
 -- The number of nodes of a tree of names and its depth. Relations and expressions are nodes.
-use Rattle.std.specs.Prelude.{ℕ, ◌+◌, max, List, fold, map, sum}
-use Rattle.castor_parse.specs.declared.tree.Item.{Item}
-use Rattle.castor_parse.specs.declared.tree.PBound.{PBound}
-use Rattle.castor_parse.specs.declared.tree.PBound.TheVariants as bound
-use Rattle.castor_parse.specs.declared.tree.PExpr.{PExpr, fold-PExpr}
-use Rattle.castor_parse.specs.declared.tree.PExpr.TheOpen.{PExpr-F}
-use Rattle.castor_parse.specs.declared.tree.PExpr.TheOpen as e
-use Rattle.castor_parse.specs.declared.tree.PRel.{PRel, fold-PRel}
-use Rattle.castor_parse.specs.declared.tree.PRel.TheOpen.{PRel-F}
-use Rattle.castor_parse.specs.declared.tree.PRel.TheOpen as r
+use Rattle.std.specs.Prelude.{◌≤◌, ℕ, ◌+◌, max, List, fold, map, sum}
+use Rattle.castor_val.specs.Limits.{most_depth, most_query_nodes}
+use Rattle.castor_tree.specs.declared.tree.Item.{Item}
+use Rattle.castor_tree.specs.declared.tree.PBound.{PBound}
+use Rattle.castor_tree.specs.declared.tree.PBound.TheVariants as bound
+use Rattle.castor_tree.specs.declared.tree.PExpr.{PExpr, fold-PExpr}
+use Rattle.castor_tree.specs.declared.tree.PExpr.TheOpen.{PExpr-F}
+use Rattle.castor_tree.specs.declared.tree.PExpr.TheOpen as e
+use Rattle.castor_tree.specs.declared.tree.PRel.{PRel, fold-PRel}
+use Rattle.castor_tree.specs.declared.tree.PRel.TheOpen.{PRel-F}
+use Rattle.castor_tree.specs.declared.tree.PRel.TheOpen as r
 
 abbrev pub expr_nodes_step : PExpr-F ℕ → ℕ
 expr_nodes_step (e.Col c) = 1
@@ -99,3 +100,8 @@ depth_step (r.Dedup p) = 1 + p
 -- the depth of a relation, 1 where it has no parts
 abbrev pub depth : PRel → ℕ
 depth q = fold-PRel ℕ depth_step q
+
+-- a tree that isn't too large: at most 4,096 nodes, and at most 64 deep
+pub record IsSmall (query : PRel) : Type 0 where
+  pub nodes : nodes query ≤ most_query_nodes
+  pub depth : depth query ≤ most_depth

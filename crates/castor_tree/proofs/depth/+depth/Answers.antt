@@ -1,8 +1,8 @@
 use Rattle.std.proofs.Common.{◌+◌, map, sym, ap, ◌∙◌, arith}
 use Rattle.std.proofs.lemmas.Bool.{false≢true}
-use Rattle.castor_parse.specs.Sizes.{depth, deepest}
-use Rattle.castor_parse.proofs.Depths.{too_deep, one_deeper, depth-Cross, depth-Concat}
-use Rattle.castor_parse.proofs.depth.+depth.Goals as goal
+use Rattle.castor_tree.specs.Sizes.{depth, deepest}
+use Rattle.castor_tree.proofs.Depths.{too_deep, one_deeper, depth-Cross, depth-Concat}
+use Rattle.castor_tree.proofs.depth.+depth.Goals as goal
 
 pub is_within-returns-in-Cross : goal.is_within-returns-in-Cross
 is_within-returns-in-Cross t c =

@@ -1,10 +1,10 @@
 -- The depth of a tree, step by step.
 use Rattle.std.proofs.Common.{◌≡◌, ℕ, zero, suc, ◌+◌, ◌-◌, ◌<◌, ◌≤◌, List, [], ◌∷◌, length, get_or, max, sym, ap, ◌∙◌, arith}
 use Rattle.std.specs.Prelude.{map, fold}
-use Rattle.castor_parse.specs.declared.tree.PRel.{PRel, fold-roll-PRel}
-use Rattle.castor_parse.specs.declared.tree.PRel.TheVariants as r
-use Rattle.castor_parse.specs.declared.tree.PRel.TheOpen as R
-use Rattle.castor_parse.specs.Sizes.{deepest, depth, depth_step}
+use Rattle.castor_tree.specs.declared.tree.PRel.{PRel, fold-roll-PRel}
+use Rattle.castor_tree.specs.declared.tree.PRel.TheVariants as r
+use Rattle.castor_tree.specs.declared.tree.PRel.TheOpen as R
+use Rattle.castor_tree.specs.Sizes.{deepest, depth, depth_step}
 
 pub depth-Cross : (ps : List PRel) → depth (r.Cross ps) ≡ 1 + deepest (map depth ps)
 depth-Cross ps = ap depth (sym (r.rolls-Cross ps)) ∙ fold-roll-PRel ℕ depth_step (R.Cross ps)

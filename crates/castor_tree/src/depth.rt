@@ -1,7 +1,7 @@
 //! Whether a tree is deep.
 
 ghost use Rattle.std.specs.Prelude.{◌≡◌, ◌≤◌, ◌↔◌, map, IsTrue};
-ghost use Rattle.castor_parse.specs.Sizes.{expr_depth, item_depth, bound_depth, depth, deepest};
+ghost use Rattle.castor_tree.specs.Sizes.{expr_depth, item_depth, bound_depth, depth, deepest};
 
 use crate::tree::{Item, PBound, PExpr, PRel};
 

@@ -6,25 +6,25 @@ use Rattle.castor_val.specs.declared.value.Ty.{Ty}
 use Rattle.castor_val.specs.declared.value.Ty.TheVariants as ty
 use Rattle.castor_val.specs.declared.value.Value.{Value}
 use Rattle.castor_val.specs.declared.value.Value.TheVariants as value
-use Rattle.castor_parse.specs.declared.tree.Word.{Word}
-use Rattle.castor_parse.specs.declared.tree.Decl.{Decl}
-use Rattle.castor_parse.specs.declared.tree.Decl.TheVariants as decl
-use Rattle.castor_parse.specs.declared.tree.PCol.{PCol}
-use Rattle.castor_parse.specs.declared.tree.PCol.TheVariants as col
-use Rattle.castor_parse.specs.declared.tree.PExpr.{PExpr, fold-PExpr}
-use Rattle.castor_parse.specs.declared.tree.PExpr.TheOpen.{PExpr-F}
-use Rattle.castor_parse.specs.declared.tree.PExpr.TheOpen as e
-use Rattle.castor_parse.specs.declared.tree.Item.{Item}
-use Rattle.castor_parse.specs.declared.tree.PAgg.{PAgg}
-use Rattle.castor_parse.specs.declared.tree.PAgg.TheVariants as agg
-use Rattle.castor_parse.specs.declared.tree.PBound.{PBound}
-use Rattle.castor_parse.specs.declared.tree.PBound.TheVariants as bound
-use Rattle.castor_parse.specs.declared.tree.PRel.{PRel, fold-PRel}
-use Rattle.castor_parse.specs.declared.tree.PRel.TheOpen.{PRel-F}
-use Rattle.castor_parse.specs.declared.tree.PRel.TheOpen as r
-use Rattle.castor_parse.specs.declared.tree.File.{File}
+use Rattle.castor_tree.specs.declared.tree.Word.{Word}
+use Rattle.castor_tree.specs.declared.tree.Decl.{Decl}
+use Rattle.castor_tree.specs.declared.tree.Decl.TheVariants as decl
+use Rattle.castor_tree.specs.declared.tree.PCol.{PCol}
+use Rattle.castor_tree.specs.declared.tree.PCol.TheVariants as col
+use Rattle.castor_tree.specs.declared.tree.PExpr.{PExpr, fold-PExpr}
+use Rattle.castor_tree.specs.declared.tree.PExpr.TheOpen.{PExpr-F}
+use Rattle.castor_tree.specs.declared.tree.PExpr.TheOpen as e
+use Rattle.castor_tree.specs.declared.tree.Item.{Item}
+use Rattle.castor_tree.specs.declared.tree.PAgg.{PAgg}
+use Rattle.castor_tree.specs.declared.tree.PAgg.TheVariants as agg
+use Rattle.castor_tree.specs.declared.tree.PBound.{PBound}
+use Rattle.castor_tree.specs.declared.tree.PBound.TheVariants as bound
+use Rattle.castor_tree.specs.declared.tree.PRel.{PRel, fold-PRel}
+use Rattle.castor_tree.specs.declared.tree.PRel.TheOpen.{PRel-F}
+use Rattle.castor_tree.specs.declared.tree.PRel.TheOpen as r
+use Rattle.castor_tree.specs.declared.tree.File.{File}
 use Rattle.castor_tokens.specs.Tokens.{is_name}
-use Rattle.castor_parse.specs.Parsed.{IsSmall}
+use Rattle.castor_tree.specs.Sizes.{IsSmall}
 
 -- a name of at most 64 bytes
 abbrev pub is_word : Word → Bool

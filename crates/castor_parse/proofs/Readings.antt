@@ -3,8 +3,8 @@ use Rattle.std.proofs.Common.{◌≡◌, ℕ, ◌+◌, ◌≤◌, ◌<◌, Bool,
 use Rattle.std.specs.Prelude.{nat_le}
 use Rattle.std.proofs.lemmas.Bool.{lt-ltb, leb-true}
 use denote.Enum.Bare.{same_true}
-use Rattle.castor_parse.specs.contracts.token.Keyword as keywords
-use Rattle.castor_parse.specs.contracts.token.Symbol as symbols
+use Rattle.castor_tokens.specs.contracts.token.Keyword as keywords
+use Rattle.castor_tokens.specs.contracts.token.Symbol as symbols
 use Rattle.castor_tokens.specs.declared.token.Keyword.{Keyword}
 use Rattle.castor_tokens.specs.declared.token.Symbol.{Symbol}
 use Rattle.castor_parse.specs.Lexemes.{Lexeme, name, int, text, keyword, symbol, Lexemes}

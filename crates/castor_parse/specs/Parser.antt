@@ -9,8 +9,8 @@ use Rattle.castor_val.specs.declared.value.Ty.TheVariants as ty
 use Rattle.castor_val.specs.declared.value.Value.TheVariants as value
 use Rattle.castor_alg.specs.declared.expr.Op.{Op}
 use Rattle.castor_alg.specs.declared.expr.Op.TheVariants as op
-use Rattle.castor_parse.specs.contracts.token.Keyword as keywords
-use Rattle.castor_parse.specs.contracts.token.Symbol as symbols
+use Rattle.castor_tokens.specs.contracts.token.Keyword as keywords
+use Rattle.castor_tokens.specs.contracts.token.Symbol as symbols
 use Rattle.castor_tokens.specs.declared.token.Keyword.{Keyword}
 use Rattle.castor_tokens.specs.declared.token.Keyword.TheVariants as word
 use Rattle.castor_tokens.specs.declared.token.Symbol.{Symbol}

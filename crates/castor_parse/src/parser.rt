@@ -1,6 +1,6 @@
 //! A parser over the tokens of a text, and the steps that every rule is made of.
 
-ghost use Rattle.std.specs.Prelude.{◌≡◌, ◌≤◌, length, All, IfOk, IsUtf8, Some};
+ghost use Rattle.std.specs.Prelude.{◌≡◌, ◌≤◌, if◌then◌else◌, length, All, IfOk, IsUtf8, Some};
 ghost use Rattle.castor_tokens.specs.Cut.{Stands, StandsAt};
 ghost use Rattle.castor_parse.specs.Lexemes.{lexemes, slice, inside, word_at, number_of, undoubled, IsNumber};
 ghost use Rattle.castor_parse.specs.Parser as spec;
@@ -268,8 +268,15 @@ impl<'a> Parser<'a> {
         ensures { spec.node empty tree self.old ≡ Some (result, self.new) }
     {
         self.budget = self.budget.saturating_sub(1);
-        if self.budget > 0 { tree } else { empty }
+        chosen(self.budget > 0, tree, empty)
     }
+}
+
+/// The first of two where it is wanted, and else the second.
+fn chosen<T: Drop>(is_wanted: bool, first: T, second: T) -> T
+    ensures { result ≡ (if is_wanted then first else second) }
+{
+    if is_wanted { first } else { second }
 }
 
 /// The name at a span.

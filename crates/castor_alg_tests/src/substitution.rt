@@ -10,8 +10,6 @@ use castor_alg::{
 use castor_val::{Cell, Faults, Memory};
 use sqlite_items::Items;
 use std::alloc::Global;
-use std::process::Abort;
-use std::test::Fail;
 
 // The value over the row `7, true`, under scope 1 with the row `5, false`.
 fn answer(e: &Expr) -> Result<i64, Faults> {
@@ -33,36 +31,57 @@ fn replacements(alloc: Global) -> Result<Items<Expr>, Memory> {
     two(alloc, bin(alloc, int(30), Op::Add, col(0)), scope(1, 1))
 }
 
+fn answer_of(made: MadeExpr) -> Option<i64> {
+    match answer(&made.ok()?) {
+        Ok(number) => Some(number),
+        Err(_) => None,
+    }
+}
+
+// The answer of the nested choice once its columns are replaced.
+fn answer_with(alloc: Global, by: Result<Items<Expr>, Memory>) -> Option<i64> {
+    match both(nested_choice(alloc), by) {
+        Ok((e, by)) => answer_of(subst_cols(alloc, &e, by.as_slice())),
+        Err(_) => None,
+    }
+}
+
 #[test]
-fn columns_of_a_nested_if_are_replaced(rt: HostRuntime) -> Result<(), Fail> {
+fn columns_of_a_nested_if_are_replaced(rt: HostRuntime) {
     let alloc = rt.alloc();
-    let e = nested_choice(alloc)?;
-    assert_eq!(rt; answer(&e), Ok(7));
-    let by = two(alloc, bin(alloc, int(30), Op::Add, col(0)), truth(true))?;
-    assert_eq!(rt; answer(&subst_cols(alloc, &e, by.as_slice())?), Ok(37));
-    assert_eq!(rt;
-        answer(&subst_cols(alloc, &e, replacements(alloc)?.as_slice())?),
-        Ok(2)
-    );
-    Ok(())
+    assert_eq!(rt; answer_of(nested_choice(alloc)), Some(7));
+    let by = two(alloc, bin(alloc, int(30), Op::Add, col(0)), truth(true));
+    assert_eq!(rt; answer_with(alloc, by), Some(37));
+    assert_eq!(rt; answer_with(alloc, replacements(alloc)), Some(2));
 }
 
 #[test]
-fn a_missing_column_is_replaced_by_false(rt: HostRuntime) -> Result<(), Fail> {
-    let by = one(rt.alloc(), int(3))?;
-    let e = nested_choice(rt.alloc())?;
-    assert_eq!(rt; answer(&subst_cols(rt.alloc(), &e, by.as_slice())?), Ok(2));
-    Ok(())
+fn a_missing_column_is_replaced_by_false(rt: HostRuntime) {
+    let alloc = rt.alloc();
+    assert_eq!(rt; answer_with(alloc, one(alloc, int(3))), Some(2));
+}
+
+// The expression with its columns taken from scope 1.
+fn from_scope(alloc: Global, e: MadeExpr) -> MadeExpr {
+    match e {
+        Ok(e) => cols_to_scope(alloc, &e, 1),
+        Err(why) => Err(why),
+    }
+}
+
+fn reads_scope(e: MadeExpr) -> bool {
+    match e {
+        Ok(e) => is_read(&e, 1),
+        Err(_) => false,
+    }
 }
 
 #[test]
-fn columns_become_those_of_a_scope(rt: HostRuntime) -> Result<(), Fail> {
-    let e = cols_to_scope(rt.alloc(), &nested_choice(rt.alloc())?, 1)?;
-    assert_eq!(rt; answer(&e), Ok(2));
-    assert!(rt; is_read(&e, 1));
-    let first = cols_to_scope(rt.alloc(), &Expr::Col(0), 1)?;
-    assert_eq!(rt; answer(&first), Ok(5));
-    Ok(())
+fn columns_become_those_of_a_scope(rt: HostRuntime) {
+    let alloc = rt.alloc();
+    assert_eq!(rt; answer_of(from_scope(alloc, nested_choice(alloc))), Some(2));
+    assert!(rt; reads_scope(from_scope(alloc, nested_choice(alloc))));
+    assert_eq!(rt; answer_of(from_scope(alloc, col(0))), Some(5));
 }
 
 // depjoin(t0 as k, filter(k2.0 = k.0, t1))

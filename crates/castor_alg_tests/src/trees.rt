@@ -7,7 +7,6 @@ use crate::build::{
 use castor_alg::{Agg, Bound, Op, Rel, copy, depth, fresh, is_free, is_total, nodes};
 use std::alloc::Global;
 use std::process::Abort;
-use std::test::Fail;
 
 // depjoin(t0 as k1, filter(k1.0 = k2.0, t1))
 fn nested(alloc: Global) -> MadeRel {
@@ -34,34 +33,50 @@ fn measures(rt: &impl Abort, query: &Rel, all: u64, deep: u64) {
     assert_eq!(rt; depth(query), deep);
 }
 
-#[test]
-fn measures_trees_and_their_copies(rt: HostRuntime) -> Result<(), Fail> {
-    let a = rt.alloc();
-    measures(&rt, &nested(a)?, 7, 4);
-    measures(&rt, &copy(a, &nested(a)?)?, 7, 4);
-    measures(&rt, &read_outside(a)?, 9, 4);
-    measures(&rt, &copy(a, &read_outside(a)?)?, 9, 4);
-    measures(&rt, &indexed(a)?, 9, 3);
-    measures(&rt, &copy(a, &indexed(a)?)?, 9, 3);
-    Ok(())
+fn copy_measures(rt: &impl Abort, alloc: Global, query: &Rel, all: u64, deep: u64) {
+    match copy(alloc, query) {
+        Ok(copied) => measures(rt, &copied, all, deep),
+        Err(_) => assert!(rt; false, "no memory"),
+    }
+}
+
+// A relation and its copy have so many nodes, and are so deep.
+fn both_measure(rt: &impl Abort, alloc: Global, query: MadeRel, all: u64, deep: u64) {
+    match query {
+        Ok(query) => {
+            measures(rt, &query, all, deep);
+            copy_measures(rt, alloc, &query, all, deep);
+        }
+        Err(_) => assert!(rt; false, "no memory"),
+    }
 }
 
 #[test]
-fn finds_free_and_fresh_scopes(rt: HostRuntime) -> Result<(), Fail> {
-    let nested = nested(rt.alloc())?;
-    assert!(rt; !is_free(&nested, 1));
-    assert!(rt; is_free(&nested, 2));
-    assert_eq!(rt; fresh(&nested), Some(3));
-    let read_outside = read_outside(rt.alloc())?;
-    assert!(rt; is_free(&read_outside, 1));
-    assert_eq!(rt; fresh(&read_outside), Some(2));
-    let indexed = indexed(rt.alloc())?;
-    assert!(rt; !is_free(&indexed, 1));
-    assert!(rt; is_free(&indexed, 2));
-    assert!(rt; is_free(&indexed, 3));
-    assert!(rt; !is_free(&indexed, 4));
-    assert_eq!(rt; fresh(&indexed), Some(5));
-    Ok(())
+fn measures_trees_and_their_copies(rt: HostRuntime) {
+    let a = rt.alloc();
+    both_measure(&rt, a, nested(a), 7, 4);
+    both_measure(&rt, a, read_outside(a), 9, 4);
+    both_measure(&rt, a, indexed(a), 9, 3);
+}
+
+// Which scopes are free, which aren't, and the fresh one.
+fn has_scopes(rt: &impl Abort, query: MadeRel, free: &[u32], bound: &[u32], due: u32) {
+    match query {
+        Ok(query) => {
+            assert!(rt; free.iter().all(|k| is_free(&query, *k)));
+            assert!(rt; bound.iter().all(|k| !is_free(&query, *k)));
+            assert_eq!(rt; fresh(&query), Some(due));
+        }
+        Err(_) => assert!(rt; false, "no memory"),
+    }
+}
+
+#[test]
+fn finds_free_and_fresh_scopes(rt: HostRuntime) {
+    let a = rt.alloc();
+    has_scopes(&rt, nested(a), &[2], &[1], 3);
+    has_scopes(&rt, read_outside(a), &[1], &[], 2);
+    has_scopes(&rt, indexed(a), &[2, 3], &[1, 4], 5);
 }
 
 fn is_fresh(rt: &impl Abort, query: MadeRel, due: Option<u32>) {

@@ -1,4 +1,3 @@
-mod AnyLengths
 mod FirstField
 pub mod Fits
 mod Fuel

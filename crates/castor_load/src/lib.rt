@@ -6,6 +6,7 @@ mod error;
 mod fields;
 mod plain;
 mod question;
+mod quoting;
 mod records;
 mod row;
 mod table;

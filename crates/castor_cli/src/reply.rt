@@ -2,7 +2,7 @@
 
 ghost use Rattle.std.specs.Prelude.{◌≡◌, ◌++◌, IfOk, OnOk, IsTrue, map};
 ghost use Rattle.castor_alg.specs.declared.out.Out.{Out};
-ghost use Rattle.castor_load.specs.Written.{IsWriting, text_of};
+ghost use Rattle.castor_load.specs.Written.{text_of};
 ghost use Rattle.castor_cli.specs.Faults.{kinds_text};
 ghost use Rattle.castor_reader.specs.Answers.{values_in};
 ghost use Rattle.castor_reader.specs.Replies.{IsReply};
@@ -41,7 +41,7 @@ fn fault_line(alloc: Global, faults: Faults) -> Result<Vec<u8>, Memory>
 
 // A writer behind the head of a reply of so many rows.
 fn after_head(alloc: Global, columns: &[Column], count: usize) -> Result<RecordWriter, Memory>
-    ensures { IfOk result (λ w. IsWriting w × (text_of w ≡ head_text columns.now count)) }
+    ensures { IfOk result (λ w. text_of w ≡ head_text columns.now count) }
 {
     let head = format!(in alloc; "rows {count}\n")?;
     let mut writer = RecordWriter::new(head.into_bytes());

@@ -1,9 +1,10 @@
 -- Rows and tables that are read fit the types.
-use Rattle.std.proofs.Common.{◌≡◌, ℕ, ◌+◌, ◌==◌, List, [], ◌∷◌, Some, Result, Ok, Err, Bool, true, false, length, ok_or, if◌then◌else◌, refl, ap, arith}
+use Rattle.std.proofs.Common.{◌≡◌, ℕ, ◌+◌, ◌==◌, List, [], ◌∷◌, Option, Some, None, Result, Ok, Err, Bool, true, false, length, ok_or, if◌then◌else◌, IfOk, IfSome, IsTrue, refl, sym, ap, arith}
 use Rattle.std.proofs.lemmas.Bool.{eqb-true}
 use Rattle.std.specs.Cmp.Lexicographic.{pointwise}
 use Rattle.std.specs.Result.{result_ok}
 use Rattle.std.specs.Str.{bytes_eq}
+use Rattle.csv.specs.Reading.{default_config, records, strip_bom}
 use Rattle.castor_val.specs.Columns.{types_of}
 use Rattle.castor_val.specs.Fields.{field_value}
 use Rattle.castor_val.specs.Values.{row_fits, table_fits}
@@ -12,7 +13,7 @@ use Rattle.castor_val.specs.declared.column.Column.{Column}
 use Rattle.castor_val.specs.declared.row.Row.{Row}
 use Rattle.castor_val.specs.declared.table.Table.{Table}
 use Rattle.castor_val.specs.declared.value.Ty.{Ty}
-use Rattle.castor_load.specs.Lines.{values_of_records}
+use Rattle.castor_load.specs.Lines.{line_values, values_of_records}
 use Rattle.castor_load.specs.Words.{Record}
 use Rattle.castor_load.specs.declared.error.LoadError.{LoadError}
 use Rattle.castor_load.specs.Rows.{all_or_refusal, and_more, names_of, row_of, rows_from, table_of_records, values_from}
@@ -73,3 +74,9 @@ values_of_records-fits [] [] row e = let none : row ≡ [] = cc e in rw none ref
 values_of_records-fits (param ∷ params) [] row e = absurd (cc e)
 values_of_records-fits params (fields ∷ []) row e = given_fits (types_of params) (row_of 0 (types_of params) fields) row (row_of-fits 0 (types_of params) fields) e
 values_of_records-fits params (fields ∷ next ∷ more) row e = absurd (cc e)
+
+-- so do those that a call gives where it gives those of a line
+pub line_values-fit : {E : Type 0} (params : List Column) (line : List ℕ) (r : Result (Option Row) E) → IfOk r (λ values. values ≡ line_values params line) → IfOk r (λ values. IfSome values (λ row. IsTrue (row_fits row (types_of params))))
+line_values-fit params line (Err e) exact = tt
+line_values-fit params line (Ok None) exact = tt
+line_values-fit params line (Ok (Some row)) exact = values_of_records-fits params (records default_config (strip_bom line)) row (sym exact)

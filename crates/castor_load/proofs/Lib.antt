@@ -1,6 +1,8 @@
-mod AnyLengths
+mod FirstField
 pub mod Fits
 mod Fuel
+mod LineValues
+mod OneRecord
 mod Rows
 mod Steps
 mod Written

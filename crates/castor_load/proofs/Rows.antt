@@ -25,7 +25,7 @@ and_more-after x (Ok ys) = refl
 and_more-after x (Err why) = refl
 
 -- the elements from a place on
-drop-at : {X : Type 0} (xs : List X) (i : ℕ) (x : X) → i < length xs → x ≡ get_or xs i x → drop i xs ≡ x ∷ drop (i + 1) xs
+pub drop-at : {X : Type 0} (xs : List X) (i : ℕ) (x : X) → i < length xs → x ≡ get_or xs i x → drop i xs ≡ x ∷ drop (i + 1) xs
 drop-at xs i x lt is = rw (add-one i) (drop-cons xs i x lt ∙ ap (λ w. w ∷ drop (suc i) xs) (sym is))
 
 -- the fields from a place on

@@ -1,55 +1,61 @@
--- What writing a field and ending a record do to the bytes that are written.
-use Rattle.std.proofs.Common.{◌≡◌, ◌≢◌, ◌∙◌, ◌∷◌, ◌++◌, ◌+◌, ◌-◌, ◌^◌, ◌<◌, ◌==◌, [], List, ℕ, Some, true, false, not, min, length, sym, refl, ap, append_assoc, length-append, arith}
-use Rattle.std.specs.Io.KnownBytes.{Appends}
-use Rattle.std.specs.declared.vec.Vec.{Vec}
-use Rattle.std.specs.declared.alloc.Global.{Global}
-use Rattle.std.proofs.lemmas.List.{append-nil}
-use Rattle.csv.specs.Writing.{default_writer, field_text, fields_written, has_written, is_blank, next_sep, row_body, row_text, tail_text, text_written, writer_setup}
-use Rattle.csv.specs.declared.writer.Writer.{Writer}
-use Rattle.csv.specs.declared.writer.QuoteStyle.TheVariants as style
-use Rattle.csv.proofs.WriteFacts.{blank-more, row-final, row-more}
-use Rattle.castor_load.specs.Written.{HasWritten, IsSet, any_lengths, bytes_in, bytes_written}
-use Rattle.castor_load.proofs.AnyLengths.{row_text-any_lengths}
-
--- between two records there are no fields of the next
-pub no_fields : (writer : Writer (Vec ℕ Global)) → IsSet writer → HasWritten writer (bytes_written writer) []
-unfolding is_blank
-no_fields writer set = record {
-  setup = set.setup;
-  count = set.fields;
-  text = sym (append-nil (bytes_written writer));
-  blank = rw set.wrote refl;
-}
+-- What one more field and the end of a record do to a text.
+use Rattle.std.proofs.Common.{◌≡◌, ◌∙◌, ◌∷◌, ◌++◌, ◌+◌, ◌<◌, ◌≤◌, ◌==◌, [], List, ℕ, length, take, take_all, get_or, refl, sym, ap, append_assoc, append-nil, length-append, eq-eqb, ne_eqb, arith}
+use Rattle.csv.specs.Writing.{default_writer, escaped, field_text, fields_text, is_blank, next_sep, quoted, row_body, row_text}
+use Rattle.csv.proofs.WriteFacts.{escaped-other, quoted-step, row-more}
+use Rattle.castor_load.specs.Words.{Record}
+use Rattle.castor_load.specs.Written.{HasWritten, record_ending}
 
 -- one more field
-pub one_field : (a b : Writer (Vec ℕ Global)) (before : List ℕ) (fields : List (List ℕ)) (field : List ℕ)
-    → length fields + 1 < 2 ^ 64
-    → HasWritten a before fields
-    → ((writer_setup a).style ≢ style.NonNumeric → Appends (text_written bytes_in a) (text_written bytes_in b) (next_sep (writer_setup a) (fields_written a) ++ field_text (writer_setup a) field))
-    → writer_setup b ≡ writer_setup a
-    → fields_written b ≡ min (fields_written a + 1) (2 ^ 64 - 1)
-    → (has_written a ≡ false → (writer_setup a).style ≢ style.NonNumeric → has_written b ≡ not (length (field_text (writer_setup a) field) == 0))
-    → (has_written a ≡ true → has_written b ≡ true)
-    → HasWritten b before (fields ++ field ∷ [])
-one_field a b before fields field few has text same count wrote stays =
-    let plain : (writer_setup a).style ≢ style.NonNumeric = rw has.setup (λ e. cc e) in
-    let size : length (fields ++ field ∷ []) ≡ length fields + 1 = length-append fields (field ∷ []) in
-    let given : bytes_written b ≡ bytes_written a ++ (next_sep any_lengths (length fields) ++ field_text any_lengths field) = rw (has.setup, has.count) at (text plain) in
-    record {
-      setup = same ∙ has.setup;
-      count = count ∙ rw (has.count, size) (omega arith);
-      text = given ∙ ap (λ t. t ++ (next_sep any_lengths (length fields) ++ field_text any_lengths field)) has.text
-          ∙ append_assoc before (row_body any_lengths fields) (next_sep any_lengths (length fields) ++ field_text any_lengths field)
-          ∙ ap (λ t. before ++ t) (sym (row-more any_lengths fields field));
-      blank = rw size (blank-more any_lengths fields field (has_written a) (has_written b) has.blank (λ none. rw has.setup at (wrote none plain)) stays);
-    }
+pub one_field : (text new before : List ℕ) (fields : Record) (field : List ℕ) → HasWritten text before fields
+    → new ≡ text ++ (next_sep default_writer (length fields) ++ field_text default_writer field) → HasWritten new before (fields ++ field ∷ [])
+one_field text new before fields field has more =
+    let next = next_sep default_writer (length fields) ++ field_text default_writer field in
+    more ∙ ap (λ t. t ++ next) has ∙ append_assoc before (row_body default_writer fields) next ∙ ap (λ t. before ++ t) (sym (row-more default_writer fields field))
+
+-- a record shows no byte exactly where it is blank
+blank_body : (fields : Record) → (length (row_body default_writer fields) == 0) ≡ is_blank default_writer fields
+unfolding fields_text is_blank
+blank_body [] = refl
+blank_body (field ∷ []) = rw (append-nil (field_text default_writer field)) refl
+blank_body (field ∷ next ∷ rest) = ne_eqb (length (row_body default_writer (field ∷ next ∷ rest))) 0
+    (λ none. let size = length-append (field_text default_writer field) (fields_text default_writer (next ∷ rest)) in omega (arith, size))
+
+-- what is behind a text is empty where its length is the text's
+same_length : (before body : List ℕ) → (length (before ++ body) == length before) ≡ (length body == 0)
+same_length before [] = rw (append-nil before) (eq-eqb (length before) (length before) refl)
+same_length before (b ∷ body) =
+    ne_eqb (length (before ++ b ∷ body)) (length before) (λ same. let size = length-append before (b ∷ body) in omega (arith, size))
+    ∙ sym (ne_eqb (length (b ∷ body)) 0 (λ none. cc none))
 
 -- the end of a record
-pub record_end : (a b : Writer (Vec ℕ Global)) (before : List ℕ) (fields : List (List ℕ))
-    → HasWritten a before fields
-    → Appends (text_written bytes_in a) (text_written bytes_in b) (tail_text (writer_setup a) (has_written a) (fields_written a))
-    → bytes_written b ≡ before ++ row_text default_writer fields
-record_end a b before fields has text =
-    let tail : Appends (Some (bytes_written a)) (Some (bytes_written b)) (tail_text any_lengths (has_written a) (length fields)) = rw (has.setup, has.count) at text in
-    row-final (Some before) (Some (bytes_written a)) (Some (bytes_written b)) any_lengths fields (has_written a) (length fields) has.text has.blank tail
-    ∙ ap (λ t. before ++ t) (row_text-any_lengths fields)
+pub record_end : (text new before : List ℕ) (fields : Record) (start : ℕ) → length before ≡ start → HasWritten text before fields
+    → new ≡ text ++ record_ending (length text == start) → new ≡ before ++ row_text default_writer fields
+record_end text new before fields start at has end =
+    let body = row_body default_writer fields in
+    let blank : (length text == start) ≡ is_blank default_writer fields = rw (has, sym at) (same_length before body) ∙ blank_body fields in
+    end ∙ rw (blank, has) (append_assoc before body (record_ending (is_blank default_writer fields)))
+
+-- one byte of a field between quotes
+pub byte-quote : (text between new : List ℕ) (b : ℕ) → b ≡ 34 → between ≡ text ++ 34 ∷ [] → new ≡ between ++ b ∷ [] → new ≡ text ++ escaped default_writer (b ∷ [])
+unfolding escaped
+byte-quote text between new b is first second = second ∙ rw (first, is) (append_assoc text (34 ∷ []) (34 ∷ []))
+
+pub byte-other : (text new : List ℕ) (b : ℕ) → (b ≡ 34 → ⊥) → new ≡ text ++ b ∷ [] → new ≡ text ++ escaped default_writer (b ∷ [])
+byte-other text new b other only = only ∙ ap (λ t. text ++ t) (sym (escaped-other default_writer b other))
+
+-- the bytes of a field behind a quote
+pub quoted-start : (text field : List ℕ) → text ++ 34 ∷ [] ≡ text ++ 34 ∷ escaped default_writer (take 0 field)
+unfolding escaped
+quoted-start text field = refl
+
+pub quoted-more : (text new before field : List ℕ) (i b : ℕ) → i < length field → b ≡ get_or field i 0 → text ≡ before ++ 34 ∷ escaped default_writer (take i field)
+    → new ≡ text ++ escaped default_writer (b ∷ []) → new ≡ before ++ 34 ∷ escaped default_writer (take (i + 1) field)
+quoted-more text new before field i b lt is so more =
+    more ∙ rw (so, is) (append_assoc before (34 ∷ escaped default_writer (take i field)) (escaped default_writer (get_or field i 0 ∷ []))
+    ∙ ap (λ t. before ++ t) (quoted-step default_writer 34 field i lt))
+
+pub quoted-end : (text new before field : List ℕ) (i : ℕ) → length field ≤ i → text ≡ before ++ 34 ∷ escaped default_writer (take i field)
+    → new ≡ text ++ 34 ∷ [] → new ≡ before ++ quoted default_writer field
+quoted-end text new before field i le so end =
+    let all : take i field ≡ field = take_all _ _ le in
+    end ∙ rw (so, all) (append_assoc before (34 ∷ escaped default_writer field) (34 ∷ []))

@@ -1,4 +1,5 @@
 pub mod Lines
+pub mod Plain
 pub mod Reading
 pub mod Rows
 pub mod Words

@@ -8,20 +8,17 @@ ghost use Rattle.castor_val.specs.Limits.{most_columns};
 ghost use Rattle.castor_load.specs.Rows.{field_read, row_of};
 ghost use Rattle.castor_load.specs.declared.error.LoadError.TheVariants as error;
 
+use crate::cells::cell_of_field;
 use crate::error::LoadError;
-use castor_val::{Cell, Column, Memory, Row, Ty, Value};
+use castor_val::{Column, Memory, Row, Ty, Value};
 use csv::ByteRecord;
 use std::alloc::Global;
-use std::str;
 
 // The value that a field is read as, if it is of the type. Linear in its bytes.
 fn read_field(alloc: Global, ty: Ty, field: &[u8]) -> Result<Option<Value>, Memory>
     ensures { IfOk result (λ value. value ≡ field_read ty field.now) }
 {
-    let Ok(text) = str::from_utf8(field) else {
-        return Ok(None);
-    };
-    match Cell::from_field(ty, text) {
+    match cell_of_field(ty, field) {
         Some(cell) => Ok(Some(cell.to_value(alloc)?)),
         None => Ok(None),
     }

@@ -1,14 +1,14 @@
 //! A text of records, written one after another.
 
-ghost use Rattle.std.specs.Prelude.{◌≡◌, ℕ, ◌+◌, ◌^◌, ◌<◌, List, [], ◌∷◌, ◌++◌, IfOk, OnOk, length, map};
-ghost use Rattle.csv.specs.Writing.{default_writer, row_text};
+ghost use Rattle.std.specs.Prelude.{◌≡◌, ℕ, List, [], ◌∷◌, ◌++◌, IfOk, OnOk, length, map};
+ghost use Rattle.csv.specs.Writing.{default_writer, next_sep, row_text};
 ghost use Rattle.castor_val.specs.Fields.{value_text};
 ghost use Rattle.castor_val.specs.Values.{value_of};
 ghost use Rattle.castor_load.specs.Rows.{names_of};
-ghost use Rattle.castor_load.specs.Written.{HasWritten, IsWriting, text_of};
+ghost use Rattle.castor_load.specs.Written.{HasWritten, record_ending, text_of};
 
+use crate::quoting::put_field;
 use castor_val::{Cell, Column, Memory, TextBuffer};
-use csv::{Writer, WriterBuilder};
 
 /// A text to whose end records are written, each as the default writer of `csv` writes it. Records
 /// may differ in their numbers of fields.
@@ -18,85 +18,87 @@ use csv::{Writer, WriterBuilder};
 /// record gets quotes.
 #[derive(Drop)]
 pub struct RecordWriter {
-    writer: Writer<Vec<u8>>,
+    text: Vec<u8>,
 }
 
-// Writes one more field of a record.
-fn put_field(writer: &mut Writer<Vec<u8>>, field: &[u8]) -> Result<(), Memory>
-    ensures { OnOk result ((before : List ℕ) (fields : List (List ℕ)) → length fields + 1 < 2 ^ 64
-        → HasWritten writer.old before fields
-        → HasWritten writer.new before (fields ++ field.now ∷ [])) }
+// What stands before the field at this place of a record.
+fn separator(place: usize) -> &'static [u8]
+    ensures { result.now ≡ next_sep default_writer place }
 {
-    if let Ok(()) = writer.write_field(field) {
-        return Ok(());
-    }
-    Err(Memory)
+    if place == 0 { b"" } else { b"," }
+}
+
+// Writes the field that stands at this place of a record.
+fn put_next(text: &mut Vec<u8>, place: usize, field: &[u8]) -> Result<(), Memory>
+    ensures { OnOk result ((before : List ℕ) (fields : List (List ℕ)) → length fields ≡ place
+        → HasWritten text.old.items before fields
+        → HasWritten text.new.items before (fields ++ field.now ∷ [])) }
+{
+    text.extend_from_slice(separator(place))?;
+    put_field(text, field)?;
+    Ok(())
+}
+
+// What ends a record: an LF, behind two quotes where the record shows no byte.
+fn record_ending(blank: bool) -> &'static [u8]
+    ensures { result.now ≡ record_ending blank }
+{
+    if blank { b"\"\"\n" } else { b"\n" }
+}
+
+// Ends the record that began where the text had this length.
+fn end_record(text: &mut Vec<u8>, start: usize) -> Result<(), Memory>
+    ensures { OnOk result ((before : List ℕ) (fields : List (List ℕ)) → length before ≡ start
+        → HasWritten text.old.items before fields
+        → text.new.items ≡ before ++ row_text default_writer fields) }
+{
+    let blank = text.len() == start;
+    text.extend_from_slice(record_ending(blank))?;
+    Ok(())
 }
 
 impl RecordWriter {
     /// A writer of records after these bytes.
     pub fn new(text: Vec<u8>) -> RecordWriter
-        ensures writing { IsWriting result }
         ensures text { text_of result ≡ text.items }
     {
-        RecordWriter {
-            writer: WriterBuilder::new().flexible(true).from_writer(text),
-        }
-    }
-
-    // Ends a record.
-    fn end(&mut self) -> Result<(), Memory>
-        ensures { OnOk result ((before : List ℕ) (fields : List (List ℕ))
-            → HasWritten self.old.writer before fields
-            → IsWriting self.new × (text_of self.new ≡ before ++ row_text default_writer fields)) }
-    {
-        if let Ok(()) = self.writer.end_record() {
-            return Ok(());
-        }
-        Err(Memory)
+        RecordWriter { text }
     }
 
     /// Writes the record of the names of columns. Linear in their bytes.
     ///
-    /// After `Memory` nothing more can be written.
+    /// After `Memory` the text may end in a part of the record.
     pub fn write_names(&mut self, columns: &[Column]) -> Result<(), Memory>
-        requires { IsWriting self.old }
-        ensures writing { OnOk result (IsWriting self.new) }
         ensures text { OnOk result (text_of self.new
             ≡ text_of self.old ++ row_text default_writer (names_of columns.now)) }
     {
-        for column in columns {
-            put_field(&mut self.writer, column.name.as_str().as_bytes())?;
+        let start = self.text.len();
+        for (place, column) in columns.iter().enumerate() {
+            put_next(&mut self.text, place, column.name.as_str().as_bytes())?;
         }
-        self.end()
+        end_record(&mut self.text, start)
     }
 
     /// Writes the record of a row of cells, each as it is printed. Linear in the printed bytes.
     ///
-    /// After `Memory` nothing more can be written.
+    /// After `Memory` the text may end in a part of the record.
     pub fn write_cells(&mut self, row: &[Cell<'_>]) -> Result<(), Memory>
-        requires { IsWriting self.old }
-        ensures writing { OnOk result (IsWriting self.new) }
         ensures text { OnOk result (text_of self.new
             ≡ text_of self.old ++ row_text default_writer (map value_text (map value_of row.now))) }
     {
-        for cell in row {
-            let mut buffer = TextBuffer::new();
-            put_field(&mut self.writer, cell.text(&mut buffer).as_bytes())?;
+        let start = self.text.len();
+        let mut buffer = TextBuffer::new();
+        for (place, cell) in row.iter().enumerate() {
+            put_next(&mut self.text, place, cell.text(&mut buffer).as_bytes())?;
         }
-        self.end()
+        end_record(&mut self.text, start)
     }
 
-    /// The bytes from before the first record, and then the records. Linear in the last few
-    /// thousand bytes, which are buffered till then.
+    /// The bytes from before the first record, and then the records.
     pub fn finish(self) -> Result<Vec<u8>, Memory>
-        requires { IsWriting self }
         ensures { IfOk result (λ text. text.items ≡ text_of self) }
     {
-        let RecordWriter { writer } = self;
-        match writer.into_inner() {
-            Ok(text) => Ok(text),
-            Err(_) => Err(Memory),
-        }
+        let RecordWriter { text } = self;
+        Ok(text)
     }
 }

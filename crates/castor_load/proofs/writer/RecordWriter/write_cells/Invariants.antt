@@ -4,5 +4,5 @@ use Rattle.castor_val.specs.Values.{value_of}
 use Rattle.castor_load.specs.Written.{HasWritten, text_of}
 use Rattle.castor_load.proofs.writer.RecordWriter.write_cells.Given as goal
 
-abbrev pub invariant-loop-cell : goal.invariant-loop-cell
-invariant-loop-cell l = HasWritten l.self.writer (text_of l.fn.self) (map value_text (map value_of (take l.cell-index l.row)))
+abbrev pub invariant-loop-place : goal.invariant-loop-place
+invariant-loop-place l = HasWritten (text_of l.self) (text_of l.fn.self) (map value_text (map value_of (take l.place l.row)))

@@ -1,5 +1,5 @@
 -- Records at the end of a text.
-use Rattle.std.specs.Prelude.{◌≡◌, ◌++◌, ◌∷◌, [], ⊤, ℕ, List, Bool, if◌then◌else◌}
+use Rattle.std.specs.Prelude.{◌≡◌, ◌++◌, ◌∷◌, [], ℕ, List, Bool, if◌then◌else◌}
 use Rattle.csv.specs.Writing.{default_writer, row_body}
 use Rattle.castor_load.specs.Words.{Record}
 use Rattle.castor_load.specs.declared.writer.RecordWriter.{RecordWriter}
@@ -7,10 +7,6 @@ use Rattle.castor_load.specs.declared.writer.RecordWriter.{RecordWriter}
 -- the bytes that are written
 abbrev pub text_of : RecordWriter → List ℕ
 text_of w = w.text.items
-
--- every writer stands between two records
-abbrev pub IsWriting : RecordWriter → Type 0
-IsWriting w = ⊤
 
 -- a text is these bytes and then these fields of a record that isn't ended
 abbrev pub HasWritten : List ℕ → List ℕ → Record → Type 0

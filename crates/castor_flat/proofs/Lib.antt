@@ -1,3 +1,4 @@
+pub mod ColumnLaws
 pub mod ConcatLaws
 pub mod ConjunctionLaws
 pub mod DedupTwiceLaws
@@ -5,12 +6,17 @@ pub mod FilterConcatLaws
 pub mod FilterDedupLaws
 pub mod FilterGroupLaws
 pub mod FilterIntoJoinLaws
+pub mod FilterJoinLeftLaws
+pub mod FilterJoinRightLaws
 pub mod FilterMergeLaws
 pub mod FilterOutOfJoinLaws
 pub mod FilterSplitLaws
 pub mod FilterSwapLaws
 pub mod FilterUnderSelectLaws
 pub mod FormLaws
+pub mod JoinCommuteLaws
+pub mod JoinFormLaws
+pub mod JoinSideLaws
 pub mod OrderDropLaws
 pub mod OrderUnderFilterLaws
 pub mod ProjectionLaws

@@ -17,11 +17,14 @@ use Rattle.castor_flat.proofs.FilterConcatLaws.{filter_concat_keeps}
 use Rattle.castor_flat.proofs.FilterDedupLaws.{filter_dedup_keeps}
 use Rattle.castor_flat.proofs.FilterGroupLaws.{filter_group_keeps}
 use Rattle.castor_flat.proofs.FilterIntoJoinLaws.{filter_into_join_keeps}
+use Rattle.castor_flat.proofs.FilterJoinLeftLaws.{filter_join_left_keeps}
+use Rattle.castor_flat.proofs.FilterJoinRightLaws.{filter_join_right_keeps}
 use Rattle.castor_flat.proofs.FilterMergeLaws.{filter_merge_keeps}
 use Rattle.castor_flat.proofs.FilterOutOfJoinLaws.{filter_out_of_join_keeps}
 use Rattle.castor_flat.proofs.FilterSplitLaws.{filter_split_keeps}
 use Rattle.castor_flat.proofs.FilterSwapLaws.{filter_swap_keeps}
 use Rattle.castor_flat.proofs.FilterUnderSelectLaws.{filter_under_select_keeps}
+use Rattle.castor_flat.proofs.JoinCommuteLaws.{join_commute_keeps}
 use Rattle.castor_flat.proofs.OrderDropLaws.{order_drop_keeps}
 use Rattle.castor_flat.proofs.OrderUnderFilterLaws.{order_under_filter_keeps}
 use Rattle.castor_flat.proofs.SelectConcatLaws.{select_concat_keeps}
@@ -35,6 +38,9 @@ plain_keeps rule.FilterUnderSelect context q made is typed = filter_under_select
 plain_keeps rule.SelectMerge context q made is typed = select_merge_keeps context q made is typed
 plain_keeps rule.FilterIntoJoin context q made is typed = filter_into_join_keeps context q made is typed
 plain_keeps rule.FilterOutOfJoin context q made is typed = filter_out_of_join_keeps context q made is typed
+plain_keeps rule.FilterJoinLeft context q made is typed = filter_join_left_keeps context q made is typed
+plain_keeps rule.FilterJoinRight context q made is typed = filter_join_right_keeps context q made is typed
+plain_keeps rule.JoinCommute context q made is typed = join_commute_keeps context q made is typed
 plain_keeps rule.FilterConcat context q made is typed = filter_concat_keeps context q made is typed
 plain_keeps rule.SelectConcat context q made is typed = select_concat_keeps context q made is typed
 plain_keeps rule.DedupTwice context q made is typed = dedup_twice_keeps context q made is typed

@@ -4,12 +4,15 @@ pub mod FilterConcat
 pub mod FilterDedup
 pub mod FilterGroup
 pub mod FilterIntoJoin
+pub mod FilterJoinLeft
+pub mod FilterJoinRight
 pub mod FilterMerge
 pub mod FilterOutOfJoin
 pub mod FilterSplit
 pub mod FilterSwap
 pub mod FilterUnderSelect
 pub mod Forms
+pub mod JoinCommute
 pub mod Making
 pub mod OrderDrop
 pub mod OrderUnderFilter

@@ -12,12 +12,15 @@ use Rattle.castor_flat.specs.FilterConcat.{filter_concat}
 use Rattle.castor_flat.specs.FilterDedup.{filter_dedup}
 use Rattle.castor_flat.specs.FilterGroup.{filter_group}
 use Rattle.castor_flat.specs.FilterIntoJoin.{filter_into_join}
+use Rattle.castor_flat.specs.FilterJoinLeft.{filter_join_left}
+use Rattle.castor_flat.specs.FilterJoinRight.{filter_join_right}
 use Rattle.castor_flat.specs.FilterMerge.{filter_merge}
 use Rattle.castor_flat.specs.FilterOutOfJoin.{filter_out_of_join}
 use Rattle.castor_flat.specs.FilterSplit.{filter_split}
 use Rattle.castor_flat.specs.FilterSwap.{filter_swap}
 use Rattle.castor_flat.specs.FilterUnderSelect.{filter_under_select}
 use Rattle.castor_flat.specs.Forms.{Rewriting}
+use Rattle.castor_flat.specs.JoinCommute.{join_commute}
 use Rattle.castor_flat.specs.OrderDrop.{order_drop}
 use Rattle.castor_flat.specs.OrderUnderFilter.{order_under_filter}
 use Rattle.castor_flat.specs.SelectConcat.{select_concat}
@@ -25,9 +28,6 @@ use Rattle.castor_flat.specs.SelectMerge.{select_merge}
 
 -- the rule is written
 abbrev pub is_built : FlatRule → Bool
-is_built rule.FilterJoinLeft = false
-is_built rule.FilterJoinRight = false
-is_built rule.JoinCommute = false
 is_built rule.Split = false
 is_built other = true
 
@@ -40,6 +40,9 @@ plain_row rule.FilterUnderSelect types q = filter_under_select q
 plain_row rule.SelectMerge types q = select_merge q
 plain_row rule.FilterIntoJoin types q = filter_into_join q
 plain_row rule.FilterOutOfJoin types q = filter_out_of_join q
+plain_row rule.FilterJoinLeft types q = filter_join_left types.tables q
+plain_row rule.FilterJoinRight types q = filter_join_right types.tables q
+plain_row rule.JoinCommute types q = join_commute types.tables q
 plain_row rule.FilterConcat types q = filter_concat q
 plain_row rule.SelectConcat types q = select_concat q
 plain_row rule.DedupTwice types q = dedup_twice q

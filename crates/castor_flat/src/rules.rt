@@ -12,11 +12,14 @@ use crate::filter_concat::filter_concat;
 use crate::filter_dedup::filter_dedup;
 use crate::filter_group::filter_group;
 use crate::filter_into_join::filter_into_join;
+use crate::filter_join_left::filter_join_left;
+use crate::filter_join_right::filter_join_right;
 use crate::filter_merge::filter_merge;
 use crate::filter_out_of_join::filter_out_of_join;
 use crate::filter_split::filter_split;
 use crate::filter_swap::filter_swap;
 use crate::filter_under_select::filter_under_select;
+use crate::join_commute::join_commute;
 use crate::order_drop::order_drop;
 use crate::order_under_filter::order_under_filter;
 use crate::select_concat::select_concat;
@@ -73,6 +76,9 @@ fn plain(alloc: Global, rule: FlatRule, query: &Rel, types: &Context) -> Result<
         FlatRule::SelectMerge => select_merge(alloc, query),
         FlatRule::FilterIntoJoin => filter_into_join(alloc, query),
         FlatRule::FilterOutOfJoin => filter_out_of_join(alloc, query),
+        FlatRule::FilterJoinLeft => filter_join_left(alloc, query, types.tables.as_slice()),
+        FlatRule::FilterJoinRight => filter_join_right(alloc, query, types.tables.as_slice()),
+        FlatRule::JoinCommute => join_commute(alloc, query, types.tables.as_slice()),
         FlatRule::FilterConcat => filter_concat(alloc, query),
         FlatRule::SelectConcat => select_concat(alloc, query),
         FlatRule::DedupTwice => dedup_twice(alloc, query),

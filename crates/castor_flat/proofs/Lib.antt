@@ -23,3 +23,4 @@ pub mod ProjectionLaws
 pub mod RuleLaws
 pub mod SelectConcatLaws
 pub mod SelectMergeLaws
+pub mod SplitLaws

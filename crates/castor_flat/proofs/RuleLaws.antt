@@ -29,6 +29,7 @@ use Rattle.castor_flat.proofs.OrderDropLaws.{order_drop_keeps}
 use Rattle.castor_flat.proofs.OrderUnderFilterLaws.{order_under_filter_keeps}
 use Rattle.castor_flat.proofs.SelectConcatLaws.{select_concat_keeps}
 use Rattle.castor_flat.proofs.SelectMergeLaws.{select_merge_keeps}
+use Rattle.castor_flat.proofs.SplitLaws.{split_keeps}
 
 plain_keeps : (r : FlatRule) (context : Context) (q made : Rel) → plain_row r context q ≡ Ok made → Typed q context → Equivalent context q made
 plain_keeps rule.FilterSplit context q made is typed = filter_split_keeps context q made is typed
@@ -48,10 +49,11 @@ plain_keeps rule.FilterDedup context q made is typed = filter_dedup_keeps contex
 plain_keeps rule.OrderDrop context q made is typed = order_drop_keeps context q made is typed
 plain_keeps rule.OrderUnderFilter context q made is typed = order_under_filter_keeps context q made is typed
 plain_keeps rule.FilterGroup context q made is typed = filter_group_keeps context q made is typed
-plain_keeps other context q made is typed = cc
+plain_keeps rule.Split context q made is typed = cc
 
 pub rule_keeps : (r : FlatRule) (arg : Arg) (context : Context) (q made : Rel) → flat_row r arg context q ≡ Ok made → Typed q context → Equivalent context q made
 rule_keeps r Nothing context q made is typed = plain_keeps r context q made is typed
+rule_keeps rule.Split (Pred p) context q made is typed = split_keeps context p q made is typed
 rule_keeps other (Pred p) context q made is typed = cc
 
 pub made_keeps : (r : FlatRule) (arg : Arg) (context : Context) (q : Rel) (result : Result Rel RuleError) → Typed q context → Gives (λ made. made) Memory (flat_row r arg context q) result → IfOk result (λ made. Equivalent context q made)

@@ -19,3 +19,4 @@ pub mod OrderUnderFilter
 pub mod Rules
 pub mod SelectConcat
 pub mod SelectMerge
+pub mod Split

@@ -1,8 +1,8 @@
 -- The rules by name: what each makes of a relation, or why it is refused.
-use Rattle.std.specs.Prelude.{Err, Bool, true, false}
+use Rattle.std.specs.Prelude.{Err}
 use Rattle.castor_alg.specs.declared.context.Context.{Context}
 use Rattle.castor_alg.specs.declared.rel.Rel.{Rel}
-use Rattle.castor_alg.specs.declared.rule_error.RuleError.TheVariants.{BadArgument, Shape}
+use Rattle.castor_alg.specs.declared.rule_error.RuleError.TheVariants.{BadArgument}
 use Rattle.castor_alg.specs.declared.step.Arg.{Arg}
 use Rattle.castor_alg.specs.declared.step.Arg.TheVariants.{Nothing, Pred}
 use Rattle.castor_alg.specs.declared.step.FlatRule.{FlatRule}
@@ -25,11 +25,7 @@ use Rattle.castor_flat.specs.OrderDrop.{order_drop}
 use Rattle.castor_flat.specs.OrderUnderFilter.{order_under_filter}
 use Rattle.castor_flat.specs.SelectConcat.{select_concat}
 use Rattle.castor_flat.specs.SelectMerge.{select_merge}
-
--- the rule is written
-abbrev pub is_built : FlatRule → Bool
-is_built rule.Split = false
-is_built other = true
+use Rattle.castor_flat.specs.Split.{split}
 
 -- a rule without an argument
 abbrev pub plain_row : FlatRule → Context → Rel → Rewriting
@@ -50,9 +46,10 @@ plain_row rule.FilterDedup types q = filter_dedup q
 plain_row rule.OrderDrop types q = order_drop q
 plain_row rule.OrderUnderFilter types q = order_under_filter q
 plain_row rule.FilterGroup types q = filter_group q
-plain_row other types q = Err Shape
+plain_row rule.Split types q = Err BadArgument
 
 -- the row of each rule: `split` alone takes an argument
 abbrev pub flat_row : FlatRule → Arg → Context → Rel → Rewriting
 flat_row rule Nothing types q = plain_row rule types q
+flat_row rule.Split (Pred p) types q = split types p q
 flat_row other (Pred p) types q = Err BadArgument

@@ -26,6 +26,7 @@ mod order_under_filter;
 mod rules;
 mod select_concat;
 mod select_merge;
+mod split;
 
 pub use castor_alg::RuleError;
 pub use rules::apply;

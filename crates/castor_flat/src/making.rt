@@ -9,7 +9,7 @@ ghost use Rattle.castor_alg.specs.declared.rel.Rel.{Concat, Dedup, Filter, Group
 ghost use Rattle.castor_alg.specs.declared.rule_error.RuleError.TheVariants as error;
 ghost use Rattle.castor_val.specs.Gives.{Gives};
 ghost use Rattle.castor_flat.specs.Making.{Makes};
-ghost use Rattle.std.specs.Prelude.{List, Ok};
+ghost use Rattle.std.specs.Prelude.{[], ◌∷◌, List, Ok};
 
 use castor_alg::copies::copy_items;
 use castor_alg::{Agg, Expr, Key, Op, Rel, RuleError, both, boxed};
@@ -115,4 +115,19 @@ pub fn negation(alloc: Global, condition: Result<Expr, Memory>) -> Result<Expr, 
     ensures { (e : Expr) → Makes e condition → Makes (Not e) result }
 {
     Ok(Expr::Not(boxed(alloc, condition)?))
+}
+
+/// Both that were made, one after the other.
+pub fn pair<T: Drop>(
+    alloc: Global,
+    a: Result<T, Memory>,
+    b: Result<T, Memory>,
+) -> Result<Items<T>, Memory>
+    ensures { (x y : T) → Makes x a → Makes y b → Makes (x ∷ y ∷ []) result }
+{
+    let (a, b) = both(a, b)?;
+    let mut pair = Items::new(alloc);
+    pair.push(a)?;
+    pair.push(b)?;
+    Ok(pair)
 }

@@ -1,11 +1,11 @@
 //! Rules by name.
 
-ghost use Rattle.std.specs.Prelude.{◌≡◌, IfOk, true};
+ghost use Rattle.std.specs.Prelude.{IfOk};
 ghost use Rattle.castor_val.specs.Gives.{Gives};
 ghost use Rattle.castor_alg.specs.Typing.{Typed};
 ghost use Rattle.castor_alg.specs.Equivalence.{Equivalent};
 ghost use Rattle.castor_alg.specs.declared.rule_error.RuleError.TheVariants as error;
-ghost use Rattle.castor_flat.specs.Rules.{flat_row, is_built, plain_row};
+ghost use Rattle.castor_flat.specs.Rules.{flat_row, plain_row};
 
 use crate::dedup_twice::dedup_twice;
 use crate::filter_concat::filter_concat;
@@ -24,15 +24,18 @@ use crate::order_drop::order_drop;
 use crate::order_under_filter::order_under_filter;
 use crate::select_concat::select_concat;
 use crate::select_merge::select_merge;
+use crate::split::split;
 use castor_alg::{Arg, Context, FlatRule, Rel, RuleError};
 use std::alloc::Global;
 
 /// What a rule makes of a relation: an equivalent one, well typed with the same column types. `fresh` is
 /// a scope that no part of the relation has; these rules bind none.
 ///
-/// The refusals come in this order, each exactly where the rule's row says so: `BadArgument` where a
-/// rule has an argument and takes none; `Shape` where the relation hasn't the form; `NotTotal` where a
-/// part that the rule moves may fault. Linear in the relation.
+/// `split` alone takes an argument: a condition over the relation's columns that reads nothing else.
+/// The refusals come in this order, each exactly where the rule's row says so: `BadArgument` where the
+/// argument isn't the rule's; `Shape` where the relation hasn't the form; `NotTotal` where a part that
+/// the rule moves may fault. Else `Memory`, also where the two operands of a join have 2^32 columns or
+/// more and the rule counts them. Linear in the relation.
 pub fn apply(
     alloc: Global,
     rule: FlatRule,
@@ -41,7 +44,6 @@ pub fn apply(
     _fresh: u32,
     types: &Context,
 ) -> Result<Rel, RuleError>
-    requires written { is_built rule ≡ true }
     requires typed { Typed query.now types.now }
     ensures row { Gives (λ r. r) error.Memory (flat_row rule arg.now types.now query.now) result }
     ensures keeps { IfOk result (λ r. Equivalent types.now query.now r) }
@@ -60,6 +62,7 @@ fn rewritten(
 {
     match (rule, arg) {
         (rule, Arg::Nothing) => plain(alloc, rule, query, types),
+        (FlatRule::Split, Arg::Pred(p)) => split(alloc, query, p, types),
         (_, Arg::Pred(_)) => Err(RuleError::BadArgument),
     }
 }
@@ -86,6 +89,6 @@ fn plain(alloc: Global, rule: FlatRule, query: &Rel, types: &Context) -> Result<
         FlatRule::OrderDrop => order_drop(alloc, query),
         FlatRule::OrderUnderFilter => order_under_filter(alloc, query),
         FlatRule::FilterGroup => filter_group(alloc, query),
-        _ => Err(RuleError::Shape),
+        FlatRule::Split => Err(RuleError::BadArgument),
     }
 }

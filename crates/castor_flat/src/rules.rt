@@ -34,8 +34,7 @@ use std::alloc::Global;
 /// `split` alone takes an argument: a condition over the relation's columns that reads nothing else.
 /// The refusals come in this order, each exactly where the rule's row says so: `BadArgument` where the
 /// argument isn't the rule's; `Shape` where the relation hasn't the form; `NotTotal` where a part that
-/// the rule moves may fault. Else `Memory`, also where the two operands of a join have 2^32 columns or
-/// more and the rule counts them. Linear in the relation.
+/// the rule moves may fault. Else `Memory`. Linear in the relation.
 pub fn apply(
     alloc: Global,
     rule: FlatRule,
